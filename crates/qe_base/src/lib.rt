@@ -1,0 +1,24 @@
+//! What every crate of the project stands on: the outside, and the small types that pass between layers.
+//!
+//! A `Source` gives bytes and a `Sink` takes them, in order; both count their faults, and a call is refused only
+//! where that count rose. `take_all` and `put_all` move whole texts. `Listing`, `Bytes` and `Text` are what
+//! contracts see as plain lists. Read: outside, transfer, memory, standard, listing, text, status.
+#![tactic(auto)]
+
+mod failure;
+mod listing;
+mod memory;
+mod outside;
+mod standard;
+mod status;
+mod text;
+mod transfer;
+
+pub use failure::{Failed, NoMemory};
+pub use listing::{Bytes, Duplicate, Ids, Listing, Numbers, Tags, Texts};
+pub use memory::{MemorySink, MemorySource};
+pub use outside::{FreeGate, Gate, Sink, Source};
+pub use standard::{StdSink, StdSource};
+pub use status::Status;
+pub use text::Text;
+pub use transfer::{TakeFault, put_all, take_all};
