@@ -1,0 +1,65 @@
+ghost use Rattle.std.specs.Prelude.{◌≡◌, IfOk};
+
+use qe_base::{Bytes, Duplicate, NoMemory};
+
+/// What is counted: one item of a field under one contention factor.
+#[derive(Drop)]
+pub enum Word {
+    /// An item's bytes: a value's, or the text of a range's edge.
+    Item {
+        field: u32,
+        item: Bytes,
+        contention: u64,
+    },
+    /// A token that a compaction row opened under another field's token.
+    Stray {
+        token: [u8; 32],
+    },
+}
+
+/// What an identifier names: a position row, an anchor row (0 is the null anchor), or a document's tag.
+#[derive(Clone, Copy, Debug, PartialEq, Eq)]
+pub enum LabelKind {
+    Position,
+    Anchor,
+    Tag,
+}
+
+/// One numbered thing of a word that has an identifier.
+#[derive(Drop)]
+pub struct Label {
+    pub kind: LabelKind,
+    pub word: Word,
+    pub number: u64,
+}
+
+impl Duplicate for Word {
+    fn copy(&self) -> Result<Self, NoMemory> {
+        match self {
+            Word::Item {
+                field,
+                item,
+                contention,
+            } => {
+                let item = item.copy()?;
+                Ok(Word::Item {
+                    field: *field,
+                    item,
+                    contention: *contention,
+                })
+            }
+            Word::Stray { token } => Ok(Word::Stray { token: *token }),
+        }
+    }
+}
+
+impl Duplicate for Label {
+    fn copy(&self) -> Result<Self, NoMemory> {
+        let word = self.word.copy()?;
+        Ok(Label {
+            kind: self.kind,
+            word,
+            number: self.number,
+        })
+    }
+}
