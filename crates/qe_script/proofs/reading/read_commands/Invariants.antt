@@ -1,0 +1,10 @@
+use Rattle.std.proofs.Common.{◌≡◌, length}
+use Rattle.qe_script.specs.Script.{commands_of}
+use Rattle.qe_script.proofs.ScriptLemmas.{behind}
+use Rattle.qe_script.proofs.reading.read_commands.Given as goal
+
+abbrev pub invariant-loop-number : goal.invariant-loop-number
+invariant-loop-number l = behind l.commands (commands_of l.path l.lines) ≡ commands_of l.path l.initial.lines
+
+abbrev pub decreases-loop-number : goal.decreases-loop-number
+decreases-loop-number l = length l.lines
