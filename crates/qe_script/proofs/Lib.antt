@@ -1,3 +1,4 @@
 pub mod FormLemmas
+pub mod Int32Lemmas
 pub mod LineLemmas
 pub mod ScriptLemmas

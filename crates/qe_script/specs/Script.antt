@@ -1,6 +1,8 @@
 -- What a script is: its first line that isn't blank is the header, each other one a command.
-use Rattle.std.specs.Prelude.{◌≡◌, ℕ, List, [], ◌∷◌, Option, Some, None, Result, Ok, Err}
+use Rattle.std.specs.Prelude.{◌≡◌, ℕ, List, [], ◌∷◌, Option, Some, None, Result, Ok, Err, FitsSigned}
+use Rattle.std.specs.Int.{w32}
 use Rattle.qe_script.specs.declared.script.Command.{Command}
+use Rattle.qe_script.specs.declared.script.Command.TheVariants.{Insert, Ids}
 use Rattle.qe_script.specs.declared.script.Header.{Header}
 use Rattle.qe_script.specs.declared.script.Script.{Script}
 use Rattle.qe_script.specs.declared.script.ScriptFault.{ScriptFault}
@@ -44,6 +46,15 @@ script_from (line ∷ lines) =
 
 unfoldable pub script_of : List ℕ → Result Script ScriptFault
 script_of bytes = script_from (numbered 1 (lines_of bytes))
+
+-- a command's numbers are int32s
+abbrev pub FitsInt32 : Command → Type 0
+FitsInt32 (Insert id value) = FitsSigned w32 id × FitsSigned w32 value
+FitsInt32 (Ids value) = FitsSigned w32 value
+
+abbrev pub AllInt32 : List Command → Type 0
+AllInt32 [] = Unit {0}
+AllInt32 (command ∷ commands) = FitsInt32 command × AllInt32 commands
 
 -- an answer is the one due; want of memory is free
 abbrev pub Gives : {A : Type 0} → Result A ScriptFault → Result A ScriptFault → Type 0

@@ -1,7 +1,7 @@
 ghost use Rattle.std.specs.Prelude.{◌≡◌, IfOk, option_map};
 ghost use Rattle.serde_json.specs.View.{view};
 ghost use Rattle.qe_script.specs.Forms.{json_of};
-ghost use Rattle.qe_script.specs.Script.{Gives, or_fault, line_header, line_command, commands_of, script_of};
+ghost use Rattle.qe_script.specs.Script.{Gives, or_fault, line_header, line_command, commands_of, script_of, AllInt32};
 
 use crate::forms::command_form;
 use crate::header::header_form;
@@ -13,6 +13,14 @@ use std::alloc::Global;
 
 /// The script that the bytes are, or the first line that has no form that is built.
 pub fn read_script(alloc: Global, bytes: &[u8]) -> Result<Script, ScriptFault>
+    ensures exact { Gives result (script_of bytes.now) }
+    ensures int32 { IfOk result (λ script. AllInt32 script.commands) }
+{
+    let script = script(alloc, bytes)?;
+    Ok(script)
+}
+
+fn script(alloc: Global, bytes: &[u8]) -> Result<Script, ScriptFault>
     ensures { Gives result (script_of bytes.now) }
 {
     let mut lines = Lines::of(bytes);

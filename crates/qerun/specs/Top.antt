@@ -1,0 +1,121 @@
+-- What a call of `replay` comes to, status by status.
+use Rattle.std.specs.Prelude.{◌≡◌, ◌⊎◌, ◌^◌, ℕ, List, [], ◌∷◌, length, Bool, true, false, not, nat_lt, codes, if◌then◌else◌, Option, Some, Result, Ok, Err}
+use Rattle.std.specs.Io.KnownBytes.{Appends, Keeps}
+use Rattle.std.specs.Str.{bytes_eq}
+use Rattle.qe_base.specs.Faults.{Rose}
+use Rattle.qe_base.specs.Transfer.{TakesAll, IsTooLong, AppendsFront}
+use Rattle.qe_base.specs.declared.status.Status.{Status}
+use Rattle.qe_base.specs.declared.status.Status.TheVariants.{Done, ReadFault, WriteFault, Clash, BadScript, ScriptTooLong, NoMemory, BadWords}
+use Rattle.qe_script.specs.Script.{script_of}
+use Rattle.qe_script.specs.declared.script.Script.{Script}
+use Rattle.qe_script.specs.declared.script.ScriptFault.{ScriptFault}
+use Rattle.qe_script.specs.declared.script.ScriptFault.TheVariants.{At}
+use Rattle.qe_script.specs.declared.script.ScriptKind.TheVariants.{NotBuilt}
+use Rattle.qerun.specs.Text.{plain_text, bad_line_text, too_long_text, usage_text}
+use Rattle.qerun.specs.Words.{NoClash}
+
+-- the one word `replay`
+abbrev pub is_replay : List (List ℕ) → Bool
+is_replay [] = false
+is_replay (word ∷ []) = bytes_eq word (codes "replay")
+is_replay (word ∷ (other ∷ words)) = false
+
+-- the text is the plain collection's, where no two labels of the run share an identifier
+pub record IsRun (taken text : List ℕ) : Type 0 where
+  pub script : Script
+  pub is_script : script_of taken ≡ Ok script
+  pub replies : NoClash script.header.field.key script.commands → text ≡ plain_text script.commands
+
+-- the text names the first line that isn't read
+pub record IsRefusal (taken text : List ℕ) : Type 0 where
+  pub line : ℕ
+  pub fault : script_of taken ≡ Err (At line NotBuilt)
+  pub printed : text ≡ bad_line_text line
+
+-- the source was taken to its end, and the text is due for its bytes
+pub record IsDueFor (Due : List ℕ → List ℕ → Type 0) (words : List (List ℕ)) (old new : Option (List ℕ)) (text : List ℕ) : Type 0 where
+  pub form : is_replay words ≡ true
+  pub taken : List ℕ
+  pub whole : TakesAll old new taken
+  pub due : Due taken text
+
+pub record IsDueForTooMuch (words : List (List ℕ)) (old new : Option (List ℕ)) (text : List ℕ) : Type 0 where
+  pub form : is_replay words ≡ true
+  pub count : ℕ
+  pub too_long : IsTooLong old new count
+  pub printed : text ≡ too_long_text
+
+pub record IsDueForWords (words : List (List ℕ)) (text : List ℕ) : Type 0 where
+  pub form : is_replay words ≡ false
+  pub printed : text ≡ usage_text
+
+-- the text that is due with a status, for these words and what was taken of the source
+abbrev pub IsDue : List (List ℕ) → Option (List ℕ) → Option (List ℕ) → Status → List ℕ → Type 0
+IsDue words old new Done text = IsDueFor IsRun words old new text
+IsDue words old new BadScript text = IsDueFor IsRefusal words old new text
+IsDue words old new ScriptTooLong text = IsDueForTooMuch words old new text
+IsDue words old new BadWords text = IsDueForWords words text
+IsDue words old new ReadFault text = ⊥
+IsDue words old new WriteFault text = ⊥
+IsDue words old new Clash text = ⊥
+IsDue words old new NoMemory text = ⊥
+
+-- A call: its words; what the source has left and how often it has failed, what the sink holds and how often it has
+-- failed, each before and after.
+pub record Call : Type 0 where
+  pub words : List (List ℕ)
+  pub left : Option (List ℕ)
+  pub left_after : Option (List ℕ)
+  pub reads : ℕ
+  pub reads_after : ℕ
+  pub holds : Option (List ℕ)
+  pub holds_after : Option (List ℕ)
+  pub writes : ℕ
+  pub writes_after : ℕ
+
+-- the text that is due was written
+pub record IsWritten (call : Call) (status : Status) : Type 0 where
+  pub text : List ℕ
+  pub due : IsDue call.words call.left call.left_after status text
+  pub written : Appends call.holds call.holds_after text
+
+-- the source failed, and nothing was written
+pub record IsUnread (call : Call) : Type 0 where
+  pub form : is_replay call.words ≡ true
+  pub rose : Rose call.reads call.reads_after
+  pub kept : Keeps call.holds call.holds_after
+
+-- the sink failed, and holds a prefix of the text that was due
+pub record IsCutShort (call : Call) : Type 0 where
+  pub status : Status
+  pub text : List ℕ
+  pub due : IsDue call.words call.left call.left_after status text
+  pub front : AppendsFront call.holds call.holds_after text
+  pub rose : Rose call.writes call.writes_after
+
+-- want of memory is free, and nothing was written
+abbrev pub IsOutcome : Call → Status → Type 0
+IsOutcome call Done = IsWritten call Done
+IsOutcome call ReadFault = IsUnread call
+IsOutcome call WriteFault = IsCutShort call
+IsOutcome call Clash = ⊥
+IsOutcome call BadScript = IsWritten call BadScript
+IsOutcome call ScriptTooLong = IsWritten call ScriptTooLong
+IsOutcome call NoMemory = Keeps call.holds call.holds_after
+IsOutcome call BadWords = IsWritten call BadWords
+
+abbrev pub status_of : Result Script ScriptFault → Status
+status_of (Ok script) = Done
+status_of (Err fault) = BadScript
+
+-- the status of words and an input
+abbrev pub due_status : List (List ℕ) → List ℕ → Status
+due_status words input =
+    if not (is_replay words) then BadWords
+    else if nat_lt (2 ^ 28) (length input) then ScriptTooLong
+    else status_of (script_of input)
+
+-- where neither side fails, the status is the one due, or memory was wanting
+abbrev pub Completes : Call → Status → Type 0
+Completes call status = (input : List ℕ) → call.left ≡ Some input → (Rose call.reads call.reads_after → ⊥)
+    → (Rose call.writes call.writes_after → ⊥) → (status ≡ due_status call.words input) ⊎ (status ≡ NoMemory)

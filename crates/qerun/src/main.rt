@@ -1,0 +1,28 @@
+//! `qerun` runs scripts of Queryable Encryption: a client that holds the keys, and a server that sees tokens alone.
+//!
+//! `replay` is the one call: its contract says that the replies are those of a plain list of documents. Read: top,
+//! run, client, server; the definitions in `specs/` stand in the same order.
+#![tactic(auto)]
+
+mod client;
+mod reply;
+mod request;
+mod run;
+mod server;
+mod texts;
+mod top;
+
+use qe_base::{StdSink, StdSource};
+use std::process::ExitCode;
+use std::{env, io};
+
+fn main(rt: HostRuntime) -> io::Result<ExitCode> {
+    let words: Vec<String> = env::args(&rt)?.skip(1).collect(rt.alloc())?;
+    let status = top::replay(
+        rt.alloc(),
+        words.as_slice(),
+        &mut StdSource::new(&rt),
+        &mut StdSink::new(&rt),
+    );
+    Ok(ExitCode::from(status.code()))
+}

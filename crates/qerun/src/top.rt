@@ -1,0 +1,165 @@
+ghost use Rattle.std.specs.Prelude.{◌≡◌, ◌≤◌, map, string_bytes, IfOk, IfErr};
+ghost use Rattle.qerun.specs.Top.{is_replay, Call, IsOutcome, Completes};
+ghost use Rattle.qerun.specs.Due.{IsPrepared, IsPreparedFor, IsWhyStopped};
+
+use crate::run::run;
+use crate::texts::{bad_line_text, replies_text, too_long_text, usage_text};
+use qe_base::{Bytes, NoMemory, Sink, Source, Status, TakeFault, put_all, take_all};
+use qe_script::{ScriptFault, read_script};
+use std::alloc::Global;
+
+/// What is to be written, and the status that it comes with.
+#[derive(Drop)]
+pub struct Due {
+    pub status: Status,
+    pub text: Bytes,
+}
+
+/// Why nothing is to be written.
+#[derive(Drop)]
+pub enum Stop {
+    ReadFault,
+    NoMemory,
+}
+
+impl From<NoMemory> for Stop {
+    ghost use Rattle.std.specs.Prelude.{◌≡◌};
+    ghost use Rattle.qerun.specs.declared.top.Stop.TheVariants.{NoMemory};
+
+    ghost from_gives = { λ _ stop. stop ≡ NoMemory };
+
+    fn from(_: NoMemory) -> Self {
+        Stop::NoMemory
+    }
+}
+
+/// Runs the script that the source gives, and writes its replies to the sink.
+pub fn replay<S: Source, K: Sink>(
+    alloc: Global,
+    words: &[String],
+    source: &mut S,
+    sink: &mut K,
+) -> Status
+    // Each status has its cause and its text.
+    ensures outcome { IsOutcome (record {
+      words = map string_bytes words.now;
+      left = S.left source.old;
+      left_after = S.left source.new;
+      reads = S.faults source.old;
+      reads_after = S.faults source.new;
+      holds = K.holds sink.old;
+      holds_after = K.holds sink.new;
+      writes = K.faults sink.old;
+      writes_after = K.faults sink.new;
+    }) result }
+
+    // It gives up for no other cause.
+    ensures complete { Completes (record {
+      words = map string_bytes words.now;
+      left = S.left source.old;
+      left_after = S.left source.new;
+      reads = S.faults source.old;
+      reads_after = S.faults source.new;
+      holds = K.holds sink.old;
+      holds_after = K.holds sink.new;
+      writes = K.faults sink.old;
+      writes_after = K.faults sink.new;
+    }) result }
+
+    ensures reads { S.faults source.old ≤ S.faults source.new }
+    ensures writes { K.faults sink.old ≤ K.faults sink.new }
+{
+    let status = outcome(alloc, words, source, sink);
+    status
+}
+
+fn outcome<S: Source, K: Sink>(
+    alloc: Global,
+    words: &[String],
+    source: &mut S,
+    sink: &mut K,
+) -> Status
+    ensures outcome { IsOutcome (record {
+      words = map string_bytes words.now;
+      left = S.left source.old;
+      left_after = S.left source.new;
+      reads = S.faults source.old;
+      reads_after = S.faults source.new;
+      holds = K.holds sink.old;
+      holds_after = K.holds sink.new;
+      writes = K.faults sink.old;
+      writes_after = K.faults sink.new;
+    }) result }
+    ensures reads { S.faults source.old ≤ S.faults source.new }
+    ensures writes { K.faults sink.old ≤ K.faults sink.new }
+{
+    match prepared(alloc, words, source) {
+        Ok(due) => match put_all(sink, due.text.slice()) {
+            Ok(()) => due.status,
+            Err(_) => Status::WriteFault,
+        },
+        Err(Stop::ReadFault) => Status::ReadFault,
+        Err(Stop::NoMemory) => Status::NoMemory,
+    }
+}
+
+// What is due for the words and what the source gives. Nothing is written yet.
+fn prepared<S: Source>(alloc: Global, words: &[String], source: &mut S) -> Result<Due, Stop>
+    ensures due { IfOk result (IsPrepared (map string_bytes words.now) (S.left source.old) (S.left source.new)) }
+    ensures stop { IfErr result (IsWhyStopped (map string_bytes words.now) (S.faults source.old) (S.faults source.new)) }
+    ensures reads { S.faults source.old ≤ S.faults source.new }
+{
+    if !is_replay(words) {
+        let text = usage_text(alloc)?;
+        return Ok(Due {
+            status: Status::BadWords,
+            text,
+        });
+    }
+    match take_all(alloc, source) {
+        Ok(taken) => {
+            let due = due_for(alloc, taken.slice())?;
+            Ok(due)
+        }
+        Err(TakeFault::TooLong { .. }) => {
+            let text = too_long_text(alloc)?;
+            Ok(Due {
+                status: Status::ScriptTooLong,
+                text,
+            })
+        }
+        Err(TakeFault::ReadFault) => Err(Stop::ReadFault),
+        Err(TakeFault::NoMemory) => Err(Stop::NoMemory),
+    }
+}
+
+// The one word `replay`.
+fn is_replay(words: &[String]) -> bool
+    ensures { result ≡ is_replay (map string_bytes words.now) }
+{
+    words.len() == 1 && words[0].as_str() == "replay"
+}
+
+// What is due for the bytes of a script.
+fn due_for(alloc: Global, taken: &[u8]) -> Result<Due, NoMemory>
+    ensures { IfOk result (IsPreparedFor taken.now) }
+{
+    match read_script(alloc, taken) {
+        Ok(script) => {
+            let replies = run(alloc, &script.header.field.key, script.commands.slice())?;
+            let text = replies_text(alloc, replies.slice())?;
+            Ok(Due {
+                status: Status::Done,
+                text,
+            })
+        }
+        Err(ScriptFault::At { line, .. }) => {
+            let text = bad_line_text(alloc, line)?;
+            Ok(Due {
+                status: Status::BadScript,
+                text,
+            })
+        }
+        Err(ScriptFault::NoMemory) => Err(NoMemory),
+    }
+}
