@@ -1,5 +1,5 @@
 -- The numbers of a script's commands are int32s.
-use Rattle.std.proofs.Common.{◌≡◌, ◌<◌, ◌^◌, ℕ, ℤ, pos, negsuc, List, [], ◌∷◌, Bool, true, false, cond, Option, Some, None, Result, Ok, Err, refl, subst}
+use Rattle.std.proofs.Common.{◌≡◌, ◌^◌, ℕ, ℤ, pos, negsuc, List, [], ◌∷◌, Bool, true, false, cond, Option, Some, None, Result, Ok, Err, refl, subst}
 use Rattle.std.proofs.lemmas.Bool.{ltb-true}
 use Rattle.std.specs.Int.{w32}
 use Rattle.std.specs.Prelude.{FitsSigned, nat_lt, ◌&&◌, codes}
@@ -99,6 +99,7 @@ script_from-int32 (line ∷ lines) script e = first (or_fault line.0 (line_heade
     then header (Ok commands) fit e =
         let here : script_with header commands ≡ script = cc in
         subst (λ (s : Script). AllInt32 s.commands) here (fit commands refl)
+
     first : (found : Result Header ScriptFault)
         → on_ok (λ header. on_ok (λ commands. Ok (script_with header commands)) (commands_of header.field.path lines)) found ≡ Ok script
         → AllInt32 script.commands

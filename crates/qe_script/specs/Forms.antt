@@ -1,5 +1,5 @@
 -- What a line says, as a function of the JSON value that it is.
-use Rattle.std.specs.Prelude.{ℕ, ◌^◌, ◌&&◌, ◌||◌, ◌==◌, ℤ, pos, negsuc, List, length, slice_index, Bool, true, false, nat_lt, nat_le, codes, if◌then◌else◌, Option, Some, None}
+use Rattle.std.specs.Prelude.{ℕ, ◌^◌, ◌&&◌, ◌||◌, ◌==◌, ℤ, pos, negsuc, List, length, slice_index, Bool, false, nat_lt, nat_le, codes, if◌then◌else◌, Option, Some, None}
 use Rattle.std.specs.Option.{option_map_or}
 use Rattle.std.specs.List.{list_all}
 use Rattle.std.specs.Char.{is_ascii_alphabetic, is_ascii_alphanumeric}
@@ -8,7 +8,7 @@ use Rattle.std.specs.Ordering.{int_eq}
 use Rattle.std.specs.Str.{is_utf8, bytes_eq}
 use Rattle.serde_json.specs.Data.{Data, Items, item, no_items}
 use Rattle.serde_json.specs.Events.{members_len}
-use Rattle.serde_json.specs.Find.{get, as_number, as_i64, as_str, as_object, as_array}
+use Rattle.serde_json.specs.Find.{get, as_number, as_i64, as_str, as_object}
 use Rattle.serde_json.specs.Read.{read}
 use Rattle.hex.specs.Hex.{decode_sized}
 use Rattle.uuid.specs.Text.{parsed}

@@ -1,8 +1,7 @@
 -- What a script's first line says.
-use Rattle.std.specs.Prelude.{ℕ, List, codes, if◌then◌else◌, Option, Some, None}
+use Rattle.std.specs.Prelude.{codes, if◌then◌else◌, Option, Some, None}
 use Rattle.serde_json.specs.Data.{Data}
 use Rattle.serde_json.specs.Find.{get, as_array}
-use Rattle.qe_script.specs.declared.script.Field.{Field}
 use Rattle.qe_script.specs.declared.script.Header.{Header}
 use Rattle.qe_script.specs.Forms.{◌>>=◌, has_names, only_item, hex_at, field_of}
 

@@ -1,5 +1,5 @@
 -- The lines of a script, and their numbers.
-use Rattle.std.specs.Prelude.{ℕ, ◌||◌, ◌==◌, List, [], Bool, not, filter, if◌then◌else◌}
+use Rattle.std.specs.Prelude.{ℕ, ◌||◌, ◌==◌, List, Bool, not, filter}
 use Rattle.std.specs.List.{list_all, enumerate_from, slice_split}
 
 -- lines end with a line feed; the last may lack it

@@ -10,6 +10,8 @@ mod header;
 mod lines;
 mod reading;
 mod script;
+#[cfg(test)]
+mod tests;
 
 pub use reading::read_script;
 pub use script::{Command, Field, Header, Script, ScriptFault, ScriptKind};

@@ -9,6 +9,8 @@ mod reply;
 mod request;
 mod run;
 mod server;
+#[cfg(test)]
+mod tests;
 mod texts;
 mod top;
 

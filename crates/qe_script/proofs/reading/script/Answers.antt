@@ -1,4 +1,4 @@
-use Rattle.std.proofs.Common.{◌≡◌, Result, Ok, Err, sym, ap, ◌∙◌}
+use Rattle.std.proofs.Common.{sym, ap, ◌∙◌}
 use Rattle.std.proofs.lemmas.Result.{err_from_is_err_and}
 use Rattle.qe_script.specs.Script.{or_fault, script_of}
 use Rattle.qe_script.proofs.ScriptLemmas.{gives, gives_on, script-no_lines, script-bad_header, script-bad_command, script-whole}

@@ -1,4 +1,4 @@
-use Rattle.std.proofs.Common.{◌≡◌, List, [], ◌∙◌, sym, arith, ap, ◌+◌, ◌∷◌}
+use Rattle.std.proofs.Common.{◌∙◌, sym, arith, ap, ◌+◌, ◌∷◌}
 use Rattle.std.proofs.lemmas.Grind.{common_steps}
 use Rattle.qe_script.specs.Left.{lines_left}
 use Rattle.qe_script.specs.Lines.{numbered}
