@@ -1,27 +1,25 @@
 -- Lists combined byte by byte.
-use Rattle.std.proofs.Common.{◌≡◌, ◌<◌, ◌≤◌, ℕ, zero, suc, min, List, [], ◌∷◌, ◌++◌, length, take, drop, slice_index, slice_set, bit_xor, refl, ap, sym, ◌∙◌, arith}
-use Rattle.std.proofs.Common.{inl, inr}
+use Rattle.std.proofs.Common.{◌≡◌, ◌<◌, ◌≤◌, ℕ, zero, suc, min, List, [], ◌∷◌, ◌++◌, length, take, drop, slice_index, slice_set, bit_xor, refl, ap, sym, ◌∙◌, arith, inl, inr}
 use Rattle.std.proofs.Math.Seq.{drop-nil}
 use Rattle.std.proofs.lemmas.Bool.{cases_lt}
 use Rattle.std.proofs.lemmas.List.{append-nil, drop_all, take_all, take-append-drop}
-use Rattle.std.specs.Int.Bits.{xor_assoc, xor_self, xor_zero_r}
-use Rattle.qe_aes.specs.KeySchedule.{xor_bytes}
+use Rattle.qe_aes.specs.Field.{xor_bytes}
+use Rattle.qe_aes.proofs.FieldLemmas.{xor-xor}
 
--- a sum with the same number twice
-pub xor-xor : (a b : ℕ) → bit_xor (bit_xor a b) b ≡ a
-xor-xor a b = xor_assoc a b b ∙ ap (bit_xor a) (xor_self b) ∙ xor_zero_r a
-
+-- nothing is combined with nothing
 pub xor_bytes-nil : (xs : List ℕ) → xor_bytes xs [] ≡ []
 unfolding xor_bytes
 xor_bytes-nil [] = refl
 xor_bytes-nil (x ∷ xs) = refl
 
+-- a list keeps its length where the other is no shorter
 pub length-xor_bytes : (xs ys : List ℕ) → length xs ≤ length ys → length (xor_bytes xs ys) ≡ length xs
 unfolding xor_bytes
 length-xor_bytes [] ys le = refl
 length-xor_bytes (x ∷ xs) [] le = absurd (omega arith)
 length-xor_bytes (x ∷ xs) (y ∷ ys) le = ap suc (length-xor_bytes xs ys (omega arith))
 
+-- the front of a sum
 pub take-xor_bytes : (n : ℕ) (xs ys : List ℕ) → take n (xor_bytes xs ys) ≡ xor_bytes (take n xs) (take n ys)
 unfolding xor_bytes
 take-xor_bytes zero xs ys = refl
@@ -29,6 +27,7 @@ take-xor_bytes (suc n) [] ys = refl
 take-xor_bytes (suc n) (x ∷ xs) [] = refl
 take-xor_bytes (suc n) (x ∷ xs) (y ∷ ys) = ap (λ zs. bit_xor x y ∷ zs) (take-xor_bytes n xs ys)
 
+-- and what stands behind it
 pub drop-xor_bytes : (n : ℕ) (xs ys : List ℕ) → drop n (xor_bytes xs ys) ≡ xor_bytes (drop n xs) (drop n ys)
 unfolding xor_bytes
 drop-xor_bytes zero xs ys = refl
@@ -36,20 +35,22 @@ drop-xor_bytes (suc n) [] ys = refl
 drop-xor_bytes (suc n) (x ∷ xs) [] = sym (xor_bytes-nil (drop n xs))
 drop-xor_bytes (suc n) (x ∷ xs) (y ∷ ys) = drop-xor_bytes n xs ys
 
--- to combine twice with a list that is long enough
+-- to combine twice with a list that is long enough is to do nothing
 pub xor_bytes-xor_bytes : (xs ys : List ℕ) → length xs ≤ length ys → xor_bytes (xor_bytes xs ys) ys ≡ xs
 unfolding xor_bytes
 xor_bytes-xor_bytes [] ys le = refl
 xor_bytes-xor_bytes (x ∷ xs) [] le = absurd (omega arith)
-xor_bytes-xor_bytes (x ∷ xs) (y ∷ ys) le = ap (λ z. z ∷ xor_bytes (xor_bytes xs ys) ys) (xor-xor x y) ∙ ap (λ zs. x ∷ zs) (xor_bytes-xor_bytes xs ys (omega arith))
+xor_bytes-xor_bytes (x ∷ xs) (y ∷ ys) le = rw (xor-xor x y, xor_bytes-xor_bytes xs ys (omega arith)) refl
 
--- a list whose front is combined with another
+-- a list whose front is combined with another: what `xor_front` makes
 abbrev pub xored_front : List ℕ → List ℕ → List ℕ
 xored_front xs ys = xor_bytes xs ys ++ drop (length ys) xs
 
+-- with nothing
 pub xored_front-nil : (xs : List ℕ) → xored_front xs [] ≡ xs
 xored_front-nil xs = ap (λ zs. zs ++ xs) (xor_bytes-nil xs)
 
+-- nothing with another
 xored_front-empty : (ys : List ℕ) → xored_front [] ys ≡ []
 unfolding xor_bytes
 xored_front-empty ys = drop-nil (length ys)
@@ -76,7 +77,7 @@ xored_front-end xs ys i all =
           ∙ append-nil (take i xs) ∙ take_all i xs past
     ]
 
--- what is combined with two lists, one after the other
+-- to combine with two lists, one behind the other, is to combine with one and then behind it with the other
 pub xored_front-append : (xs ys zs : List ℕ) → length ys ≤ length xs
     → take (length ys) (xored_front xs ys) ++ xored_front (drop (length ys) (xored_front xs ys)) zs ≡ xored_front xs (ys ++ zs)
 unfolding xor_bytes

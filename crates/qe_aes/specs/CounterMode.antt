@@ -1,7 +1,7 @@
 -- The counter mode of NIST SP 800-38A under AES-256.
 use Rattle.std.specs.Prelude.{◌≡◌, ℕ, zero, suc, ◌+◌, ◌*◌, ◌%◌, ◌^◌, List, [], ◌++◌, length, take, drop}
 use Rattle.std.specs.Int.{w128, from_be_bytes, to_be_bytes, div_ceil}
-use Rattle.qe_aes.specs.KeySchedule.{xor_bytes}
+use Rattle.qe_aes.specs.Field.{xor_bytes}
 use Rattle.qe_aes.specs.Cipher.{aes_256}
 
 -- counter block i: the first one, as a number of 128 bits, plus i (6.5; B.1 with m = 128)

@@ -1,8 +1,13 @@
 -- The field of FIPS 197, section 4 (sections as in the edition of 2023). A byte is a number below 256,
 -- and stands for the polynomial over GF(2) whose coefficient of x^i is its bit i. All sums and products
 -- are modulo x^8 + x^4 + x^3 + x + 1. The sum of two bytes is `bit_xor` (4.1).
-use Rattle.std.specs.Prelude.{ℕ, zero, suc, ◌+◌, ◌*◌, ◌/◌, ◌%◌, ◌^◌, bit_xor}
+use Rattle.std.specs.Prelude.{ℕ, zero, suc, ◌+◌, ◌*◌, ◌/◌, ◌%◌, ◌^◌, List, [], ◌∷◌, bit_xor}
 use Rattle.std.specs.Int.{bit_at}
+
+-- byte by byte the sum of two lists, as long as the shorter
+unfoldable pub xor_bytes : List ℕ → List ℕ → List ℕ
+xor_bytes (x ∷ xs) (y ∷ ys) = bit_xor x y ∷ xor_bytes xs ys
+xor_bytes _ _ = []
 
 -- XTIMES: b times x (4.2)
 abbrev pub xtimes : ℕ → ℕ

@@ -5,4 +5,4 @@ pub mod Cipher
 pub mod Words
 pub mod CounterMode
 pub mod Laws
-pub mod Examples
+pub mod Vectors

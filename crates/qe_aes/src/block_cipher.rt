@@ -1,4 +1,4 @@
-//! The type that callers hold: a key of AES-256, expanded once.
+//! What callers hold: a key of AES-256, expanded once.
 
 ghost use Rattle.std.specs.Prelude.{◌≡◌};
 ghost use Rattle.qe_aes.specs.Cipher.{aes_256, inv_aes_256};
@@ -6,11 +6,10 @@ ghost use Rattle.qe_aes.specs.CounterMode.{counter_mode};
 
 use crate::counter::{counter_block, xor_front};
 use crate::rounds::{cipher, inv_cipher};
-use crate::schedule::expand;
-use crate::state::KeySchedule;
+use crate::schedule::{KeySchedule, expand};
 use std::marker::Model;
 
-/// A key of AES-256 with its key schedule, which takes 240 bytes and no other memory.
+/// A key of AES-256 with its key schedule, in 240 bytes. They are not wiped when it is dropped.
 #[derive(Drop)]
 pub struct Aes256 {
     words: KeySchedule,
@@ -39,21 +38,22 @@ impl Aes256 {
         Aes256 { words: expand(key) }
     }
 
-    /// The cipher of a block.
+    /// CIPHER of FIPS 197, 5.1.
     pub fn encrypt(&self, block: [u8; 16]) -> [u8; 16]
         ensures { result ≡ aes_256 self.now block }
     {
         cipher(&self.words, block)
     }
 
-    /// The block of which this one is the cipher.
+    /// INVCIPHER of FIPS 197, 5.3.
     pub fn decrypt(&self, block: [u8; 16]) -> [u8; 16]
         ensures { result ≡ inv_aes_256 self.now block }
     {
         inv_cipher(&self.words, block)
     }
 
-    /// Enciphers or deciphers the bytes in place in the counter mode, where `iv` is the first counter block.
+    /// The counter mode of SP 800-38A, in place: block `i` is combined with the cipher of `iv + i`, big-endian
+    /// and modulo 2^128, and a short last block with the front of it. The same call enciphers and deciphers.
     pub fn ctr(&self, iv: &[u8; 16], bytes: &mut [u8])
         ensures { bytes.new ≡ counter_mode self.now iv.now bytes.old }
     {

@@ -1,11 +1,16 @@
 //! The key schedule of AES-256 (FIPS 197, 5.2).
 
 ghost use Rattle.std.specs.Prelude.{◌≡◌, ◌<◌, ◌≤◌, take};
-ghost use Rattle.qe_aes.specs.KeySchedule.{turned_word, key_words, key_schedule};
+ghost use Rattle.qe_aes.specs.KeySchedule.{temp_word, key_words, key_schedule};
 ghost use Rattle.qe_aes.specs.Words.{word_bytes, words_of};
 
 use crate::columns::{sub, word_at};
-use crate::state::KeySchedule;
+
+/// How many rounds the cipher has.
+pub(crate) const ROUNDS: usize = 14;
+
+/// Four words for each round, and four before the first.
+pub(crate) type KeySchedule = [u32; 60];
 
 /// Rcon[1] to Rcon[7].
 const ROUND_CONSTANTS: [u32; 7] = [
@@ -24,7 +29,7 @@ pub(crate) fn expand(key: &[u8; 32]) -> KeySchedule
 {
     let mut words = load_key(key);
     for i in 8..60 {
-        words[i] = words[i - 8] ^ turned(words[i - 1], i);
+        words[i] = words[i - 8] ^ temp(words[i - 1], i);
     }
     words
 }
@@ -40,16 +45,16 @@ fn load_key(key: &[u8; 32]) -> KeySchedule
     words
 }
 
-/// What `w[i - 8]` is added to in `w[i]`, from `w[i - 1]`.
-fn turned(word: u32, i: usize) -> u32
+/// What is added to `w[i - 8]` in `w[i]`, where `before` is `w[i - 1]`.
+fn temp(before: u32, i: usize) -> u32
     requires low { 8 ≤ i }
     requires high { i < 60 }
-    ensures { word_bytes result ≡ turned_word i (word_bytes word) }
+    ensures { word_bytes result ≡ temp_word i (word_bytes before) }
 {
-    let [a, b, c, d] = word.to_be_bytes();
+    let [a, b, c, d] = before.to_be_bytes();
     match i % 8 {
         0 => sub([b, c, d, a]) ^ ROUND_CONSTANTS[i / 8 - 1],
         4 => sub([a, b, c, d]),
-        _ => word,
+        _ => before,
     }
 }

@@ -1,14 +1,12 @@
-//! The state of the cipher, and the steps of a round on it (FIPS 197, 5.1 and 5.3).
+//! The state, and the steps of a round on it (FIPS 197, 5.1 and 5.3).
 
-ghost use Rattle.std.specs.Prelude.{◌≡◌, ℕ, ◌+◌, ◌*◌, ◌<◌, ◌≤◌, [], ◌∷◌, length, take, drop, map, slice_index};
+ghost use Rattle.std.specs.Prelude.{◌≡◌, ◌+◌, ◌*◌, ◌≤◌, [], ◌∷◌, slice_index};
 ghost use Rattle.qe_aes.specs.Steps.{sub_bytes, shift_rows, mix_columns, add_round_key, inv_sub_bytes, inv_shift_rows, inv_mix_columns};
 ghost use Rattle.qe_aes.specs.Cipher.{round, inv_round};
 ghost use Rattle.qe_aes.specs.Words.{word_bytes, words_of, state_bytes};
 
 use crate::columns::{inv_mix, inv_sub, sub, sub_mix, word_at};
-
-/// The words of the key schedule.
-pub(crate) type KeySchedule = [u32; 60];
+use crate::schedule::{KeySchedule, ROUNDS};
 
 /// The four columns of a state.
 #[derive(Clone, Copy)]
@@ -40,7 +38,7 @@ impl State {
     /// ADDROUNDKEY with the key of round `n`.
     #[inline(always)]
     pub(crate) fn add_round_key(self, words: &KeySchedule, n: usize) -> State
-        requires { n < 15 }
+        requires { n ≤ ROUNDS }
         ensures { state_bytes result ≡ add_round_key (words_of words.now) n (state_bytes self) }
     {
         State(
@@ -79,9 +77,10 @@ impl State {
         )
     }
 
+    /// Round `n` of the cipher.
     #[inline(always)]
     pub(crate) fn round(self, words: &KeySchedule, n: usize) -> State
-        requires { n < 15 }
+        requires { n ≤ ROUNDS }
         ensures { state_bytes result ≡ round (words_of words.now) n (state_bytes self) }
     {
         self.sub_shift_mix().add_round_key(words, n)
@@ -101,6 +100,7 @@ impl State {
         )
     }
 
+    /// INVMIXCOLUMNS.
     #[inline(always)]
     fn inv_mix(self) -> State
         ensures { state_bytes result ≡ inv_mix_columns (state_bytes self) }
@@ -113,9 +113,10 @@ impl State {
         )
     }
 
+    /// Round `n` of the inverse.
     #[inline(always)]
     pub(crate) fn inv_round(self, words: &KeySchedule, n: usize) -> State
-        requires { n < 15 }
+        requires { n ≤ ROUNDS }
         ensures { state_bytes result ≡ inv_round (words_of words.now) n (state_bytes self) }
     {
         self.inv_shift_sub().add_round_key(words, n).inv_mix()
@@ -125,7 +126,8 @@ impl State {
 /// Row 0 of the first column, row 1 of the second, row 2 of the third and row 3 of the last.
 #[inline(always)]
 fn diagonal(a: u32, b: u32, c: u32, d: u32) -> [u8; 4]
-    ensures { result ≡ slice_index (word_bytes a) 0 ∷ slice_index (word_bytes b) 1 ∷ slice_index (word_bytes c) 2 ∷ slice_index (word_bytes d) 3 ∷ [] }
+    ensures { result ≡ slice_index (word_bytes a) 0 ∷ slice_index (word_bytes b) 1
+        ∷ slice_index (word_bytes c) 2 ∷ slice_index (word_bytes d) 3 ∷ [] }
 {
     [
         a.to_be_bytes()[0],

@@ -1,4 +1,4 @@
-//! The tables of the cipher. The proofs compare each entry with FIPS 197's own definition.
+//! The tables of the cipher. The proofs compare each entry with the definitions of FIPS 197.
 
 /// SBOX.
 pub(crate) static S_BOX: [u8; 256] = [
@@ -40,7 +40,7 @@ pub(crate) static INV_S_BOX: [u8; 256] = [
     0x17, 0x2b, 0x04, 0x7e, 0xba, 0x77, 0xd6, 0x26, 0xe1, 0x69, 0x14, 0x63, 0x55, 0x21, 0x0c, 0x7d,
 ];
 
-/// SUBBYTES and MIXCOLUMNS of a byte in row 0: the column {02} s, s, s, {03} s for s = SBOX(b), high byte first.
+/// What MIXCOLUMNS gives of s = SBOX(b) in row 0: the column {02} s, s, s, {03} s, high byte first.
 pub(crate) static MIXED_S_BOX: [u32; 256] = [
     0xc66363a5, 0xf87c7c84, 0xee777799, 0xf67b7b8d, 0xfff2f20d, 0xd66b6bbd, 0xde6f6fb1, 0x91c5c554,
     0x60303050, 0x02010103, 0xce6767a9, 0x562b2b7d, 0xe7fefe19, 0xb5d7d762, 0x4dababe6, 0xec76769a,
@@ -76,7 +76,7 @@ pub(crate) static MIXED_S_BOX: [u32; 256] = [
     0x824141c3, 0x299999b0, 0x5a2d2d77, 0x1e0f0f11, 0x7bb0b0cb, 0xa85454fc, 0x6dbbbbd6, 0x2c16163a,
 ];
 
-/// INVMIXCOLUMNS of a byte in row 0: the column {0e} b, {09} b, {0d} b, {0b} b, high byte first.
+/// What INVMIXCOLUMNS gives of b in row 0: the column {0e} b, {09} b, {0d} b, {0b} b, high byte first.
 pub(crate) static INV_MIXED: [u32; 256] = [
     0x00000000, 0x0e090d0b, 0x1c121a16, 0x121b171d, 0x3824342c, 0x362d3927, 0x24362e3a, 0x2a3f2331,
     0x70486858, 0x7e416553, 0x6c5a724e, 0x62537f45, 0x486c5c74, 0x4665517f, 0x547e4662, 0x5a774b69,

@@ -5,4 +5,4 @@ use Rattle.qe_aes.proofs.counter.counter_block.Goals as goal
 
 pub returns : goal.returns
 unfolding counter_block
-returns c = c.to_be_bytes.ensures ∙ ap (λ n. to_be_bytes w128 ((n + c.args.i) % 2 ^ 128)) c.from_be_bytes.ensures
+returns c = c.to_be_bytes.ensures ∙ ap (λ n. to_be_bytes w128 ((n + c.args.i) % 2 ^ 128)) c.from_be_bytes-first.ensures

@@ -12,7 +12,7 @@ loop-i-init c = record { long = search rules; front = c.load_key-words.ensures }
 pub loop-i-preserved : goal.loop-i-preserved
 loop-i-preserved c = record {
   long = length-set _ _ _ ∙ c.loop-i.invariant.long;
-  front = expansion-next c.args.key.now c.loop-i.words c.loop-i.i c.turned.result (omega arith) (omega arith) c.loop-i.invariant.front c.turned.ensures;
+  front = expansion-next c.args.key.now c.loop-i.words c.loop-i.i c.temp.result (omega arith) (omega arith) c.loop-i.invariant.front c.temp.ensures;
 }
 
 pub returns : goal.returns
