@@ -1,0 +1,12 @@
+mod BlockLemmas
+mod BoundLemmas
+mod CountLemmas
+mod EdgeLemmas
+mod LevelLemmas
+mod OffsetLemmas
+mod RulesLemmas
+mod ShareLemmas
+mod TallyLemmas
+mod TextLemmas
+mod WalkLemmas
+mod WidestLemmas
