@@ -1,8 +1,10 @@
 mod BlockLemmas
 mod BoundLemmas
 mod CountLemmas
+mod CoverLemmas
 mod EdgeLemmas
 mod LevelLemmas
+mod ListLemmas
 mod OffsetLemmas
 mod RulesLemmas
 mod ShareLemmas

@@ -1,8 +1,8 @@
 -- Values as numbers, and the digits that spell them.
-use Rattle.std.proofs.Common.{◌≡◌, ℕ, suc, ◌+◌, ◌-◌, ◌*◌, ◌^◌, ◌<◌, ◌≤◌, ℤ, pos, ◌+ℤ◌, ◌<ℤ◌, ◌≤ℤ◌, sym, ap, ◌∙◌, subst, arith}
+use Rattle.std.proofs.Common.{◌≡◌, ℕ, suc, ◌+◌, ◌^◌, ◌<◌, ◌≤◌, ℤ, ◌<ℤ◌, ◌≤ℤ◌, ◌↔◌, sym, subst, arith}
 use Rattle.std.proofs.Math.Nat.{pow-suc}
 use Rattle.std.specs.Int.{int_max, int_min}
-use Rattle.std.proofs.lemmas.Int.{ints, clamps, int_max_is, int_min_is}
+use Rattle.std.proofs.lemmas.Int.{ints, clamps}
 use Rattle.std.proofs.lemmas.Nat.{leading_top}
 use Rattle.qe_edges.specs.Rules.{Rules, binary_digits, HasDigits, offset_of, bits_of, InDomain, IsDomain}
 use Rattle.qe_edges.specs.Prefixes.{InInterval}
@@ -33,12 +33,16 @@ offset-lt rules v domain held =
     omega (arith, span.0)
 
 -- an interval, cut with the domain, has the numbers between its ends'
-pub interval_between : (rules : Rules) (lo hi first last : ℤ) (number : ℕ) → first ≡ int_max lo rules.min → last ≡ int_min hi rules.max → first ≤ℤ last
-    → (InInterval rules lo hi number → Between (offset_of rules first) (offset_of rules last + 1) number) × (Between (offset_of rules first) (offset_of rules last + 1) number → InInterval rules lo hi number)
-interval_between rules lo hi first last number first_is last_is some =
-    (λ inside. (omega (arith, ints, clamps), omega (arith, ints, clamps)), λ between. (omega (arith, ints, clamps), omega (arith, ints, clamps), omega (arith, ints, clamps)))
+pub interval_between : (rules : Rules) (lo hi first last : ℤ) (number : ℕ) → first ≡ int_max lo rules.min
+    → last ≡ int_min hi rules.max → first ≤ℤ last
+    → InInterval rules lo hi number ↔ Between (offset_of rules first) (offset_of rules last + 1) number
+interval_between rules lo hi first last number first_is last_is some = (
+  λ inside. (omega (arith, ints, clamps), omega (arith, ints, clamps)),
+  λ between. (omega (arith, ints, clamps), omega (arith, ints, clamps), omega (arith, ints, clamps)),
+)
 
 -- and none where the ends cross
-pub interval_empty : (rules : Rules) (lo hi first last : ℤ) (number : ℕ) → first ≡ int_max lo rules.min → last ≡ int_min hi rules.max → last <ℤ first
+pub interval_empty : (rules : Rules) (lo hi first last : ℤ) (number : ℕ) → first ≡ int_max lo rules.min
+    → last ≡ int_min hi rules.max → last <ℤ first
     → InInterval rules lo hi number → ⊥
 interval_empty rules lo hi first last number first_is last_is none inside = omega (arith, ints, clamps)

@@ -1,7 +1,7 @@
 -- When rules make a domain, and when their trim factor doesn't.
-use Rattle.std.proofs.Common.{◌≡◌, ℕ, ◌+◌, ◌-◌, ◌%◌, ◌<◌, ◌≤◌, ◌⊎◌, min, max, ℤ, ◌-ℤ◌, ◌<ℤ◌, unsigned_abs, FitsSigned, Option, unwrap_or, inl, inr, refl, sym, ap, ◌∙◌, subst, arith}
+use Rattle.std.proofs.Common.{◌≡◌, ℕ, ◌-◌, ◌<◌, ◌≤◌, min, max, ℤ, ◌-ℤ◌, ◌<ℤ◌, unsigned_abs, FitsSigned, Option, unwrap_or, inl, inr, sym, ap, ◌∙◌, arith}
 use Rattle.std.specs.Int.{w64, next_multiple_of}
-use Rattle.qe_edges.specs.Rules.{Rules, bits_of, binary_digits, rules_of, IsStored, IsSparsity, IsTooLong, HasTrimFault, IsDomain}
+use Rattle.qe_edges.specs.Rules.{Rules, bits_of, binary_digits, rules_of, IsSparsity, HasTrimFault, IsDomain}
 use Rattle.qe_edges.proofs.LevelLemmas.{level_from, shortest_from}
 
 module _ (low high : ℤ) (sparsity : ℕ) (given : Option ℕ) (bits trim : ℕ) (ordered : low <ℤ high) (some : IsSparsity sparsity)
@@ -24,7 +24,10 @@ module _ (low high : ℤ) (sparsity : ℕ) (given : Option ℕ) (bits trim : ℕ
 
   module _ (kept : trim < bits) (lowest : ℕ) (lowest_is : lowest ≡ min (next_multiple_of (max 0 trim) sparsity) bits) where
     lowest_level : lowest ≡ level_from rules 0
-    lowest_level = lowest_is ∙ ap (λ b. min (next_multiple_of (max 0 trim) sparsity) b) whole ∙ ap (λ t. min (next_multiple_of (max 0 t) sparsity) (bits_of rules)) trimmed
+    lowest_level =
+        lowest_is
+        ∙ ap (λ b. min (next_multiple_of (max 0 trim) sparsity) b) whole
+        ∙ ap (λ t. min (next_multiple_of (max 0 t) sparsity) (bits_of rules)) trimmed
 
     pub trims_short : 10 < lowest → HasTrimFault rules
     trims_short long =

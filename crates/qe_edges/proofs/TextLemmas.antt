@@ -1,10 +1,9 @@
 -- The texts of prefixes.
-use Rattle.std.proofs.Common.{◌≡◌, ℕ, zero, suc, ◌+◌, ◌-◌, ◌*◌, ◌/◌, ◌%◌, ◌^◌, ◌<◌, ◌≤◌, List, [], ◌∷◌, ◌++◌, length, take, set, refl, sym, ap, ◌∙◌, subst, arith, append_assoc}
+use Rattle.std.proofs.Common.{◌≡◌, ℕ, zero, suc, ◌+◌, ◌-◌, ◌*◌, ◌/◌, ◌%◌, ◌^◌, ◌<◌, List, ◌++◌, length, take, set, refl, sym, ap, ◌∙◌, subst, arith, append_assoc}
 use Rattle.std.proofs.Math.Nat.{mod-one, mod-eq_of_lt}
 use Rattle.std.proofs.lemmas.Nat.{mod-pow-add}
 use Rattle.std.proofs.lemmas.List.{take_more_set}
 use Rattle.qe_edges.specs.Texts.{digits_of, spelling_of, TextsDiffer}
-use Rattle.qe_edges.specs.declared.edge.Edge.{Edge}
 use Rattle.qe_edges.proofs.BlockLemmas.{same_edge}
 
 length-digits_of : (places number : ℕ) → length (digits_of places number) ≡ places
@@ -38,13 +37,17 @@ same_spelling (suc k) (suc l) p q p_fits q_fits same =
     (lengths, sym (mod-eq_of_lt (subst (λ n. p < 2 ^ n) lengths p_fits)) ∙ low ∙ mod-eq_of_lt q_fits)
 
 pub texts_differ : TextsDiffer
-texts_differ e f e_fits f_fits same = let parts = same_spelling e.len f.len e.prefix f.prefix e_fits f_fits same in same_edge e f parts.1 parts.0
+texts_differ e f e_fits f_fits same = let parts = same_spelling e.len f.len e.prefix f.prefix e_fits f_fits same in
+    same_edge e f parts.1 parts.0
 
 -- the digits written and those to come are all, also with one digit more
-pub digits_more : (into : List ℕ) (len place prefix digit : ℕ) → place < length into → place < len → digit ≡ 48 + prefix / 2 ^ (len - 1 - place) % 2
-    → take place into ++ digits_of (len - place) prefix ≡ digits_of len prefix → take (place + 1) (set into place digit) ++ digits_of (len - (place + 1)) prefix ≡ digits_of len prefix
+pub digits_more : (into : List ℕ) (len place prefix digit : ℕ) → place < length into → place < len
+    → digit ≡ 48 + prefix / 2 ^ (len - 1 - place) % 2
+    → take place into ++ digits_of (len - place) prefix ≡ digits_of len prefix
+    → take (place + 1) (set into place digit) ++ digits_of (len - (place + 1)) prefix ≡ digits_of len prefix
 digits_more into len place prefix digit within more is written =
     let rest = len - 1 - place in
     let next : len - (place + 1) ≡ rest = omega arith in
     let here : len - place ≡ suc rest = omega arith in
-    rw (take_more_set into place digit within, next, append_assoc, is) (ap (λ n. take place into ++ digits_of n prefix) (sym here) ∙ written)
+    rw (take_more_set into place digit within, next, append_assoc, is)
+    (ap (λ n. take place into ++ digits_of n prefix) (sym here) ∙ written)

@@ -1,69 +1,41 @@
 -- The cover that the walk over an interval builds.
-use Rattle.std.proofs.Common.{◌≡◌, ℕ, ◌+◌, ◌-◌, ◌*◌, ◌/◌, ◌%◌, ◌^◌, ◌<◌, ◌≤◌, List, [], ◌∷◌, ◌++◌, length, get_or, inl, inr, refl, sym, ap, ◌∙◌, subst, arith}
-use Rattle.std.specs.List.{All, AllPairs, Contains}
+use Rattle.std.proofs.Common.{◌≡◌, ℕ, ◌+◌, ◌-◌, ◌%◌, ◌^◌, ◌<◌, ◌≤◌, List, [], ◌∷◌, ◌++◌, get_or, inl, inr, ap, ◌∙◌, subst, arith}
+use Rattle.std.specs.List.{All, Contains}
 use Rattle.std.proofs.Math.Nat.{mul-mod_left}
 use Rattle.std.proofs.lemmas.Nat.{pow_pos}
-use Rattle.std.proofs.lemmas.Bool.{cases_lt, cases_order}
+use Rattle.std.proofs.lemmas.Bool.{cases_lt}
 use Rattle.std.proofs.lemmas.List.Elements.{Contains-push, Contains-push_cases, Contains-append_left, Contains-get_or}
 use Rattle.std.proofs.lemmas.List.Quantifiers.{all_pairs_push}
 use Rattle.qe_edges.specs.Rules.{Rules, bits_of, IsStored}
-use Rattle.qe_edges.specs.Prefixes.{Lists, Begins, lowest_of, IsInside, IsCoverPrefix}
+use Rattle.qe_edges.specs.Prefixes.{Lists, Rises, Begins, lowest_of, IsInside, IsCoverPrefix, IsSpelled}
 use Rattle.qe_edges.specs.Walk.{Between, IsWidestAt}
 use Rattle.qe_edges.specs.declared.edge.Edge.{Edge}
-use Rattle.qe_edges.proofs.LevelLemmas.{stored-le}
-use Rattle.qe_edges.proofs.BlockLemmas.{size_at, same_edge, begins_between, between_begins, shorter_front, shorter_begins, prefix_fits, block_end}
-
--- two prefixes of a cover that begin one number are one
-pub cover_once : (rules : Rules) (set : ℕ → Type 0) (e f : Edge) (x : ℕ) → IsCoverPrefix rules set e → IsCoverPrefix rules set f → Begins rules e x → Begins rules f x → e ≡ f
-cover_once rules set e f x in_e in_f begins_e begins_f =
-    elim (cases_order e.len f.len) [
-        inl lengths ↦ same_edge e f (sym begins_e ∙ ap (λ l. x / size_at rules l) lengths ∙ begins_f) lengths
-      | inr (inl less) ↦ absurd (in_f.shortest e in_e.stored (less, shorter_front rules e f x (omega arith) (stored-le rules f.len in_f.stored) begins_e begins_f) in_e.inside)
-      | inr (inr more) ↦ absurd (in_e.shortest f in_f.stored (more, shorter_front rules f e x (omega arith) (stored-le rules e.len in_e.stored) begins_f begins_e) in_f.inside)
-    ]
-
--- the least number of a cover's block lies in the covered set
-pub lowest_inside : (rules : Rules) (set : ℕ → Type 0) (e : Edge) → IsCoverPrefix rules set e → set (lowest_of rules e)
-lowest_inside rules set e in_e =
-    let some = pow_pos (bits_of rules - e.len) in
-    let ends = block_end rules e (stored-le rules e.len in_e.stored) in_e.spelled in
-    in_e.inside (lowest_of rules e) (omega arith) (between_begins rules e (lowest_of rules e) (omega arith) (omega arith))
-
--- sets of the same numbers have the same cover
-same_cover : (rules : Rules) (P Q : ℕ → Type 0) → ((x : ℕ) → P x → Q x) → ((x : ℕ) → Q x → P x) → (e : Edge) → IsCoverPrefix rules P e → IsCoverPrefix rules Q e
-same_cover rules P Q to from e in_e = record {
-  stored = in_e.stored;
-  spelled = in_e.spelled;
-  inside = λ x small begins. to x (in_e.inside x small begins);
-  shortest = λ f stored short inside. in_e.shortest f stored short (λ x small begins. from x (inside x small begins));
-}
-
-pub lists_same : (rules : Rules) (P Q : ℕ → Type 0) → ((x : ℕ) → (Q x → P x) × (P x → Q x)) → (items : List Edge) → Lists (IsCoverPrefix rules P) items → Lists (IsCoverPrefix rules Q) items
-lists_same rules P Q same items listed e = (
-  λ has. same_cover rules P Q (λ x. (same x).1) (λ x. (same x).0) e ((listed e).0 has),
-  λ in_e. (listed e).1 (same_cover rules Q P (λ x. (same x).0) (λ x. (same x).1) e in_e),
-)
-
--- where there is no number there is no cover
-pub lists_none : (rules : Rules) (set : ℕ → Type 0) → ((x : ℕ) → set x → ⊥) → Lists (IsCoverPrefix rules set) []
-lists_none rules set none e = (λ has. absurd (omega (arith, has.1)), λ in_e. absurd (none (lowest_of rules e) (lowest_inside rules set e in_e)))
+use Rattle.qe_edges.proofs.LevelLemmas.{stored-le, bits_of-le}
+use Rattle.qe_edges.proofs.BlockLemmas.{size_at, begins_between, between_begins, shorter_front, shorter_begins, prefix_fits, block_end}
+use Rattle.qe_edges.proofs.ListLemmas.{all_members}
+use Rattle.qe_edges.proofs.CoverLemmas.{cover_once, lowest_inside}
 
 -- no stored block inside the interval reaches over a number from below
 abbrev pub IsBoundary : Rules → ℕ → ℕ → ℕ → Type 0
-IsBoundary rules first end at = (f : Edge) → IsStored rules f.len → IsInside rules (Between first end) f → Begins rules f at → at ≤ lowest_of rules f
+IsBoundary rules first end at =
+    (f : Edge) → IsStored rules f.len → IsInside rules (Between first end) f → Begins rules f at → at ≤ lowest_of rules f
 
 -- the walk came so far: the items are the cover's prefixes whose blocks begin below, in order
 pub record IsWalked (rules : Rules) (first end at : ℕ) (items : List Edge) : Type 0 where
   pub started : first ≤ at
-  pub members : (e : Edge) → (Contains items e → IsCoverPrefix rules (Between first end) e × (lowest_of rules e < at)) × (IsCoverPrefix rules (Between first end) e × (lowest_of rules e < at) → Contains items e)
+  pub members : Lists (λ e. IsCoverPrefix rules (Between first end) e × (lowest_of rules e < at)) items
   pub boundary : at < end → IsBoundary rules first end at
-  pub order : AllPairs (λ e f. lowest_of rules e < lowest_of rules f) items
+  pub order : Rises (lowest_of rules) items
 
 -- at the start there is none
 pub walk_starts : (rules : Rules) (first end : ℕ) → end ≤ 2 ^ bits_of rules → IsWalked rules first end first []
 walk_starts rules first end fits = record {
   started = omega arith;
-  members = λ e. (λ has. absurd (omega (arith, has.1)), λ (in_e, below). absurd (omega (arith, (lowest_inside rules (Between first end) e in_e).0)));
+  members = λ e. (
+    λ has. absurd (omega (arith, has.1)),
+    λ (in_e, below). absurd
+        (omega (arith, (lowest_inside rules (Between first end) e in_e).0)),
+  );
   boundary = λ less f stored inside begins.
       let between = begins_between rules f first begins in
       let size = pow_pos (bits_of rules - f.len) in
@@ -72,11 +44,21 @@ walk_starts rules first end fits = record {
 }
 
 -- at the end they are the cover
-pub walk_ends : (rules : Rules) (first end at : ℕ) (items : List Edge) → IsWalked rules first end at items → end ≤ at → Lists (IsCoverPrefix rules (Between first end)) items
+pub walk_ends : (rules : Rules) (first end at : ℕ) (items : List Edge) → IsWalked rules first end at items → end ≤ at
+    → Lists (IsCoverPrefix rules (Between first end)) items
 walk_ends rules first end at items walked over e = (
   λ has. ((walked.members e).0 has).0,
   λ in_e. (walked.members e).1 (in_e, let low = (lowest_inside rules (Between first end) e in_e).1 in omega arith),
 )
+
+-- and are spelled
+pub walk_spells : (rules : Rules) (first end at : ℕ) (items : List Edge) → IsWalked rules first end at items
+    → All IsSpelled items
+walk_spells rules first end at items walked = all_members IsSpelled items (λ e has.
+    let known = ((walked.members e).0 has).0 in
+    let le = stored-le rules e.len known.stored in
+    let most = bits_of-le rules in
+    (omega arith, known.spelled))
 
 -- one step of the walk
 module _ (rules : Rules) (first end at : ℕ) (items : List Edge) (new : Edge) (fits : end ≤ 2 ^ bits_of rules) (less : at < end)
@@ -88,22 +70,23 @@ module _ (rules : Rules) (first end at : ℕ) (items : List Edge) (new : Edge) (
       between_begins rules new at (omega arith) (omega arith)
 
   -- no shorter stored block inside the interval holds the number
-  least : (f : Edge) → IsStored rules f.len → IsInside rules (Between first end) f → Begins rules f at → new.len ≤ f.len
+  least : (f : Edge) → IsStored rules f.len → IsInside rules (Between first end) f → Begins rules f at
+      → new.len ≤ f.len
   least f stored inside begins =
       elim (cases_lt f.len new.len) [
-          inl short ↦
-              let size = size_at rules f.len in
-              let some = pow_pos (bits_of rules - f.len) in
-              let high = walked.boundary less f stored inside begins in
-              let low = begins_between rules f at begins in
-              let lowest : at ≡ lowest_of rules f = omega arith in
-              let long = stored-le rules f.len stored in
-              let ends = block_end rules f long (prefix_fits rules f at long (omega arith) begins) in
-              let last = inside (at + size - 1) (omega arith) (between_begins rules f (at + size - 1) (omega arith) (omega arith)) in
-              elim widest.shortest [
-                  inl alone ↦ absurd (alone f.len stored short (ap (λ n. n % size) lowest ∙ mul-mod_left f.prefix size))
-                | inr alone ↦ let large = alone f.len stored short in absurd (omega (arith, last.1))
-              ]
+        | inl short ↦
+            let size = size_at rules f.len in
+            let some = pow_pos (bits_of rules - f.len) in
+            let high = walked.boundary less f stored inside begins in
+            let low = begins_between rules f at begins in
+            let lowest : at ≡ lowest_of rules f = omega arith in
+            let long = stored-le rules f.len stored in
+            let ends = block_end rules f long (prefix_fits rules f at long (omega arith) begins) in
+            let last = inside (at + size - 1) (omega arith) (between_begins rules f (at + size - 1) (omega arith) (omega arith)) in
+            elim widest.shortest [
+              | inl alone ↦ absurd (alone f.len stored short (ap (λ n. n % size) lowest ∙ mul-mod_left f.prefix size))
+              | inr alone ↦ let large = alone f.len stored short in absurd (omega (arith, last.1))
+            ]
         | inr long ↦ long
       ]
 
@@ -118,7 +101,8 @@ module _ (rules : Rules) (first end at : ℕ) (items : List Edge) (new : Edge) (
         let start = walked.started in
         (omega arith, omega arith);
     shortest = λ f stored (short, front) inside.
-        let long = least f stored inside (shorter_begins rules f new at (omega arith) (stored-le rules new.len widest.stored) front begins_at) in
+        let long = least f stored inside (shorter_begins rules f new at (omega arith)
+        (stored-le rules new.len widest.stored) front begins_at) in
         omega arith;
   }
 
@@ -128,22 +112,22 @@ module _ (rules : Rules) (first end at : ℕ) (items : List Edge) (new : Edge) (
       let some = pow_pos (bits_of rules - new.len) in
       let low = widest.begins in
       elim (cases_lt (lowest_of rules f) next) [
-          inl over ↦
-              let between = begins_between rules f next begins in
-              let f_before = between_begins rules f (next - 1) (omega arith) (omega arith) in
-              let new_before = between_begins rules new (next - 1) (omega arith) (omega arith) in
-              elim (cases_lt f.len new.len) [
-                  inl short ↦
-                      let short-le = stored-le rules new.len widest.stored in
-                      let front = shorter_front rules f new (next - 1) (omega arith) short-le f_before new_before in
-                      let long = least f stored inside (shorter_begins rules f new at (omega arith) short-le front begins_at) in
-                      absurd (omega arith)
-                | inr long ↦
-                      let long-le = stored-le rules f.len stored in
-                      let front = shorter_front rules new f (next - 1) long long-le new_before f_before in
-                      let within = begins_between rules new next (shorter_begins rules new f next long long-le front begins) in
-                      absurd (omega arith)
-              ]
+        | inl over ↦
+            let between = begins_between rules f next begins in
+            let f_before = between_begins rules f (next - 1) (omega arith) (omega arith) in
+            let new_before = between_begins rules new (next - 1) (omega arith) (omega arith) in
+            elim (cases_lt f.len new.len) [
+              | inl short ↦
+                  let short-le = stored-le rules new.len widest.stored in
+                  let front = shorter_front rules f new (next - 1) (omega arith) short-le f_before new_before in
+                  let long = least f stored inside (shorter_begins rules f new at (omega arith) short-le front begins_at) in
+                  absurd (omega arith)
+              | inr long ↦
+                  let long-le = stored-le rules f.len stored in
+                  let front = shorter_front rules new f (next - 1) long long-le new_before f_before in
+                  let within = begins_between rules new next (shorter_begins rules new f next long long-le front begins) in
+                  absurd (omega arith)
+            ]
         | inr above ↦ above
       ]
 
@@ -158,17 +142,17 @@ module _ (rules : Rules) (first end at : ℕ) (items : List Edge) (new : Edge) (
         started = let start = walked.started in omega arith;
         members = λ e. (
           λ has. elim (Contains-push_cases items new e has) [
-              inl old ↦ let known = (walked.members e).0 old in (known.0, let below = known.1 in omega arith)
+            | inl old ↦ let known = (walked.members e).0 old in (known.0, let below = known.1 in omega arith)
             | inr same ↦ subst (λ f. IsCoverPrefix rules set f × (lowest_of rules f < next)) same (new_in_cover, omega arith)
           ],
           λ (in_e, below). elim (cases_lt (lowest_of rules e) at) [
-              inl old ↦ Contains-append_left items (new ∷ []) e ((walked.members e).1 (in_e, old))
+            | inl old ↦ Contains-append_left items (new ∷ []) e ((walked.members e).1 (in_e, old))
             | inr from ↦
-                  let e_some = pow_pos (bits_of rules - e.len) in
-                  let e_lowest = between_begins rules e (lowest_of rules e) (omega arith) (omega arith) in
-                  let new_lowest = between_begins rules new (lowest_of rules e) (omega arith) (omega arith) in
-                  let same = cover_once rules set new e (lowest_of rules e) new_in_cover in_e new_lowest e_lowest in
-                  subst (Contains (items ++ new ∷ [])) same (Contains-push items new)
+                let e_some = pow_pos (bits_of rules - e.len) in
+                let e_lowest = between_begins rules e (lowest_of rules e) (omega arith) (omega arith) in
+                let new_lowest = between_begins rules new (lowest_of rules e) (omega arith) (omega arith) in
+                let same = cover_once rules set new e (lowest_of rules e) new_in_cover in_e new_lowest e_lowest in
+                subst (Contains (items ++ new ∷ [])) same (Contains-push items new)
           ],
         );
         boundary = λ _. next_boundary;

@@ -1,5 +1,5 @@
 -- The widest stored block that begins at a number: what its trailing zeros and the numbers left say.
-use Rattle.std.proofs.Common.{◌≡◌, ◌≢◌, ℕ, zero, suc, ◌+◌, ◌-◌, ◌*◌, ◌/◌, ◌%◌, ◌^◌, ◌<◌, ◌≤◌, min, inl, inr, refl, sym, ap, ◌∙◌, subst, arith}
+use Rattle.std.proofs.Common.{◌≡◌, ℕ, zero, suc, ◌+◌, ◌-◌, ◌*◌, ◌/◌, ◌%◌, ◌^◌, ◌<◌, ◌≤◌, min, inl, inr, refl, ap, ◌∙◌, arith}
 use lib.Count.{count_trailing_zeros}
 use Rattle.std.specs.Int.{w128, bit_at, trailing_zeros}
 use Rattle.std.proofs.Math.Nat.{mod-one, zero-mod, zero-mul, div-add-mod', pow-suc, le-mul_of_pos_right}
@@ -9,7 +9,6 @@ use Rattle.std.proofs.lemmas.Nat.Bits.{bit_at-trailing_zeros}
 use Rattle.std.proofs.lemmas.Bool.{cases_lt, cases_eq}
 use Rattle.qe_edges.specs.Rules.{Rules, bits_of, IsStored, IsShortestFrom}
 use Rattle.qe_edges.specs.Walk.{IsAlignedAlone, FitsAlone, IsWidestAt}
-use Rattle.qe_edges.proofs.LevelLemmas.{stored-le}
 
 -- a number whose k lowest digits are 0 is a multiple of 2 ^ k
 zeros_multiple : (n k : ℕ) → ((i : ℕ) → i < k → bit_at n i ≡ 0) → n % 2 ^ k ≡ 0
@@ -39,10 +38,13 @@ zeros_of_zero = refl
 
 -- no more blocks fit than there are numbers
 pub log-le : (log left bits : ℕ) → 2 ^ log ≤ left → left ≤ 2 ^ bits → log ≤ bits
-log-le log left bits low high = elim (cases_lt bits log) [ inl more ↦ let grows = pow_below bits log more in absurd (omega arith) | inr le ↦ le ]
+log-le log left bits low high = elim (cases_lt bits log)
+    [ inl more ↦ let grows = pow_below bits log more in absurd (omega arith) | inr le ↦ le ]
 
-module _ (rules : Rules) (at end height log len : ℕ) (less : at < end) (fits : at < 2 ^ 128) (low : 2 ^ log ≤ end - at) (high : end - at < 2 * 2 ^ log)
-    (small : log < 128) (within : log ≤ bits_of rules) (is : height ≡ min (trailing_zeros w128 at) log) (found : IsShortestFrom rules (bits_of rules - height) len) where
+module _ (rules : Rules) (at end height log len : ℕ) (less : at < end) (fits : at < 2 ^ 128) (low : 2 ^ log ≤ end - at)
+    (high : end - at < 2 * 2 ^ log)
+    (small : log < 128) (within : log ≤ bits_of rules) (is : height ≡ min (trailing_zeros w128 at) log)
+    (found : IsShortestFrom rules (bits_of rules - height) len) where
   -- the block's height
   under : bits_of rules - len ≤ height
   under = let from = found.from in omega arith
@@ -50,13 +52,15 @@ module _ (rules : Rules) (at end height log len : ℕ) (less : at < end) (fits :
   -- a shorter stored prefix has a higher block
   above : (level : ℕ) → IsStored rules level → level < len → height < bits_of rules - level
   above level stored short =
-      elim (cases_lt level (bits_of rules - height)) [ inl lower ↦ omega arith | inr from ↦ let le = found.below level stored from in absurd (omega arith) ]
+      elim (cases_lt level (bits_of rules - height))
+      [ inl lower ↦ omega arith | inr from ↦ let le = found.below level stored from in absurd (omega arith) ]
 
   aligned : at % 2 ^ (bits_of rules - len) ≡ 0
   aligned =
       elim (cases_eq at 0) [
-          inl none ↦ ap (λ n. n % 2 ^ (bits_of rules - len)) none ∙ zero-mod (2 ^ (bits_of rules - len))
-        | inr some ↦ zeros_multiple at (bits_of rules - len) (λ i below. (bit_at-trailing_zeros w128 at (omega arith) fits).2 i (let le = under in omega arith))
+        | inl none ↦ ap (λ n. n % 2 ^ (bits_of rules - len)) none ∙ zero-mod (2 ^ (bits_of rules - len))
+        | inr some ↦ zeros_multiple at (bits_of rules - len)
+            (λ i below. (bit_at-trailing_zeros w128 at (omega arith) fits).2 i (let le = under in omega arith))
       ]
 
   fits_alone : height ≡ log → FitsAlone rules (end - at) len
@@ -80,7 +84,8 @@ module _ (rules : Rules) (at end height log len : ℕ) (less : at < end) (fits :
     begins = let whole = div-add-mod' at (2 ^ (bits_of rules - len)) in let rest = aligned in omega arith;
     fits = let le = under in let grows = pow_mono (let h : bits_of rules - len ≤ log = omega arith in h) in omega arith;
     shortest = elim (cases_eq at 0) [
-        inl none ↦ inr (fits_alone (let zeros = ap (trailing_zeros w128) none ∙ zeros_of_zero in omega arith))
-      | inr some ↦ elim (cases_lt log (trailing_zeros w128 at)) [ inl less ↦ inr (fits_alone (omega arith)) | inr le ↦ inl (aligned_alone (omega arith) (omega arith)) ]
+      | inl none ↦ inr (fits_alone (let zeros = ap (trailing_zeros w128) none ∙ zeros_of_zero in omega arith))
+      | inr some ↦ elim (cases_lt log (trailing_zeros w128 at))
+          [ inl less ↦ inr (fits_alone (omega arith)) | inr le ↦ inl (aligned_alone (omega arith) (omega arith)) ]
     ];
   }

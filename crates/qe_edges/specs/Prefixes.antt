@@ -1,12 +1,22 @@
 -- The edges of a value and the cover of an interval, as in the range index of MongoDB's Queryable Encryption
--- (libmongocrypt, edge generation and minimum cover). The order of both, and the cut with the domain, are this project's own.
+-- (libmongocrypt, edge generation and minimum cover). The order of both, and the cut with the domain, are this
+-- project's own.
 use Rattle.std.specs.Prelude.{◌≡◌, ℕ, ◌-◌, ◌*◌, ◌/◌, ◌^◌, ◌<◌, ◌≤◌, ◌↔◌, ℤ, pos, ◌+ℤ◌, ◌≤ℤ◌, List, Contains}
+use Rattle.std.specs.List.{AllPairs}
 use Rattle.qe_edges.specs.Rules.{Rules, offset_of, bits_of, IsStored, IsDomain, InDomain}
 use Rattle.qe_edges.specs.declared.edge.Edge.{Edge}
 
 -- the list has exactly the prefixes of a set
 abbrev pub Lists : (Edge → Type 0) → List Edge → Type 0
 Lists set edges = (e : Edge) → Contains edges e ↔ set e
+
+-- the list rises with a number of its prefixes
+abbrev pub Rises : (Edge → ℕ) → List Edge → Type 0
+Rises number edges = AllPairs (λ e f. number e < number f) edges
+
+-- so many digits, at most 64, spell the number
+abbrev pub IsSpelled : Edge → Type 0
+IsSpelled e = (e.len ≤ 64) × (e.prefix < 2 ^ e.len)
 
 -- the prefix begins the string of a number: its block is the set of these numbers
 abbrev pub Begins : Rules → Edge → ℕ → Type 0
@@ -20,7 +30,7 @@ lowest_of rules e = e.prefix * 2 ^ (bits_of rules - e.len)
 abbrev pub IsEdgeOf : Rules → ℤ → Edge → Type 0
 IsEdgeOf rules v e = IsStored rules e.len × Begins rules e (offset_of rules v)
 
--- the block of the prefix, of all strings that it begins, lies inside a set of numbers
+-- the block of the prefix, all strings that it begins, lies inside a set of numbers
 abbrev pub IsInside : Rules → (ℕ → Type 0) → Edge → Type 0
 IsInside rules set e = (number : ℕ) → number < 2 ^ bits_of rules → Begins rules e number → set number
 
@@ -56,3 +66,15 @@ MeetInside = (rules : Rules) (v lo hi : ℤ) → IsDomain rules → InDomain rul
 -- they share one prefix at most
 abbrev pub MeetOnce : Type 0
 MeetOnce = (rules : Rules) (v lo hi : ℤ) (e f : Edge) → IsShared rules v lo hi e → IsShared rules v lo hi f → e ≡ f
+
+-- the members and the order make the list of edges
+abbrev pub OneEdgeList : Type 0
+OneEdgeList = (rules : Rules) (v : ℤ) (edges others : List Edge)
+    → Lists (IsEdgeOf rules v) edges → Rises (λ e. e.len) edges
+    → Lists (IsEdgeOf rules v) others → Rises (λ e. e.len) others → edges ≡ others
+
+-- .. and that of a cover
+abbrev pub OneCoverList : Type 0
+OneCoverList = (rules : Rules) (lo hi : ℤ) (cover other : List Edge)
+    → Lists (IsInCover rules lo hi) cover → Rises (lowest_of rules) cover
+    → Lists (IsInCover rules lo hi) other → Rises (lowest_of rules) other → cover ≡ other

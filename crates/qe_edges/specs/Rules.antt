@@ -47,12 +47,12 @@ abbrev pub IsSparsity : ℕ → Type 0
 IsSparsity sparsity = (1 ≤ sparsity) × (sparsity ≤ 8)
 
 -- each stored prefix has more than 10 digits
-abbrev pub IsTooLong : Rules → Type 0
-IsTooLong rules = (level : ℕ) → IsStored rules level → 10 < level
+abbrev pub StoresOnlyLong : Rules → Type 0
+StoresOnlyLong rules = (level : ℕ) → IsStored rules level → 10 < level
 
--- the trim factor takes the whole string away, or leaves long prefixes alone
+-- the trim factor leaves not even the whole string, or only long prefixes
 abbrev pub HasTrimFault : Rules → Type 0
-HasTrimFault rules = (bits_of rules ≤ rules.trim) ⊎ IsTooLong rules
+HasTrimFault rules = (bits_of rules ≤ rules.trim) ⊎ StoresOnlyLong rules
 
 -- the rules as they are given, with the default trim factor
 abbrev pub rules_of : ℤ → ℤ → ℕ → Option ℕ → Rules
@@ -70,4 +70,4 @@ pub record IsDomain (rules : Rules) : Type 0 where
   pub ordered : rules.min <ℤ rules.max
   pub sparsity : IsSparsity rules.sparsity
   pub trim : rules.trim < bits_of rules
-  pub short : ¬ IsTooLong rules
+  pub short : ¬ StoresOnlyLong rules

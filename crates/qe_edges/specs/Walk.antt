@@ -1,5 +1,5 @@
 -- What the walk over an interval knows at each of its steps.
-use Rattle.std.specs.Prelude.{◌≡◌, ◌≢◌, ℕ, ◌+◌, ◌-◌, ◌*◌, ◌%◌, ◌^◌, ◌<◌, ◌≤◌, ◌⊎◌}
+use Rattle.std.specs.Prelude.{◌≡◌, ◌≢◌, ℕ, ◌+◌, ◌-◌, ◌%◌, ◌^◌, ◌<◌, ◌≤◌, ◌⊎◌}
 use Rattle.qe_edges.specs.Rules.{Rules, bits_of, IsStored}
 use Rattle.qe_edges.specs.Prefixes.{lowest_of}
 use Rattle.qe_edges.specs.declared.edge.Edge.{Edge}

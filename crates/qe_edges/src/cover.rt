@@ -1,6 +1,6 @@
-ghost use Rattle.std.specs.Prelude.{◌≡◌, ◌+◌, ◌-◌, ◌*◌, ◌^◌, ◌<◌, ◌≤◌, length, AllPairs, IfOk};
+ghost use Rattle.std.specs.Prelude.{◌^◌, ◌<◌, ◌≤◌, length, All, IfOk};
 ghost use Rattle.qe_edges.specs.Rules.{bits_of};
-ghost use Rattle.qe_edges.specs.Prefixes.{Lists, lowest_of, IsCoverPrefix, IsInCover};
+ghost use Rattle.qe_edges.specs.Prefixes.{Lists, Rises, IsSpelled, lowest_of, IsCoverPrefix, IsInCover};
 ghost use Rattle.qe_edges.specs.Walk.{Between, IsWidestAt};
 
 use crate::{Domain, Edge, Edges};
@@ -12,7 +12,8 @@ impl Domain {
     /// empty. It takes one step for each prefix that it gives.
     pub fn cover(&self, alloc: Global, lo: i64, hi: i64) -> Result<Edges, NoMemory>
         ensures members { IfOk result (Lists (IsInCover self.now lo hi)) }
-        ensures order { IfOk result (AllPairs (λ e f. lowest_of self.now e < lowest_of self.now f)) }
+        ensures order { IfOk result (Rises (lowest_of self.now)) }
+        ensures spelled { IfOk result (All IsSpelled) }
         ensures count { IfOk result (λ cover. length cover ≤ 4096) }
     {
         let lo = lo.max(self.min());
@@ -27,7 +28,8 @@ impl Domain {
     fn walk(&self, alloc: Global, first: u128, end: u128) -> Result<Edges, NoMemory>
         requires { end ≤ 2 ^ bits_of self.now }
         ensures members { IfOk result (Lists (IsCoverPrefix self.now (Between first end))) }
-        ensures order { IfOk result (AllPairs (λ e f. lowest_of self.now e < lowest_of self.now f)) }
+        ensures order { IfOk result (Rises (lowest_of self.now)) }
+        ensures spelled { IfOk result (All IsSpelled) }
         ensures count { IfOk result (λ cover. length cover ≤ 4096) }
     {
         let bits = self.bits();

@@ -49,7 +49,8 @@ impl Model for Domain {
 impl Domain {
     /// The domain of these rules. The default trim factor is 6, or one below the number of digits where that is less.
     pub fn new(min: i64, max: i64, sparsity: u32, trim: Option<u32>) -> Result<Domain, DomainFault>
-        ensures ok { IfOk result (λ domain. (domain ≡ rules_of min max sparsity trim) × IsDomain domain) }
+        ensures ok { IfOk result (λ domain. domain ≡ rules_of min max sparsity trim) }
+        ensures domain { IfOk result IsDomain }
         ensures order { (result ≡ Err DomainFault.MinNotBelowMax) ↔ (max ≤ℤ min) }
         ensures sparsity { (result ≡ Err DomainFault.SparsityRange) ↔ ((min <ℤ max) × ¬ IsSparsity sparsity) }
         ensures trim { (result ≡ Err DomainFault.TrimRange)

@@ -1,6 +1,6 @@
-ghost use Rattle.std.specs.Prelude.{◌≡◌, ◌<◌, ◌≤◌, length, AllPairs, IfOk};
+ghost use Rattle.std.specs.Prelude.{◌≤◌, length, All, IfOk};
 ghost use Rattle.qe_edges.specs.Rules.{InDomain};
-ghost use Rattle.qe_edges.specs.Prefixes.{Lists, IsEdgeOf};
+ghost use Rattle.qe_edges.specs.Prefixes.{Lists, Rises, IsSpelled, IsEdgeOf};
 
 use crate::{Domain, Edge, Edges};
 use qe_base::NoMemory;
@@ -11,7 +11,8 @@ impl Domain {
     pub fn edges(&self, alloc: Global, v: i64) -> Result<Edges, NoMemory>
         requires { InDomain self.now v }
         ensures members { IfOk result (Lists (IsEdgeOf self.now v)) }
-        ensures order { IfOk result (AllPairs (λ e f. e.len < f.len)) }
+        ensures order { IfOk result (Rises (λ e. e.len)) }
+        ensures spelled { IfOk result (All IsSpelled) }
         ensures count { IfOk result (λ edges. length edges ≤ 65) }
     {
         let bits = self.bits();

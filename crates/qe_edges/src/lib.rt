@@ -17,4 +17,4 @@ mod tests;
 
 pub use domain::{Domain, DomainFault};
 pub use edge::{Edge, Edges};
-pub use laws::{meet_once, texts_differ};
+pub use laws::{meet_once, one_list, texts_differ};

@@ -1,17 +1,21 @@
+ghost use Rattle.std.specs.Prelude.{All};
+ghost use Rattle.qe_edges.specs.Prefixes.{IsSpelled};
+
 use crate::{Domain, DomainFault, Edge, Edges};
+use qe_base::Duplicate;
 use std::alloc::Global;
 use std::test::Fail;
 
 // The texts of prefixes, with a blank behind each.
-fn texts(alloc: Global, edges: &Edges) -> Result<String, Fail> {
+fn texts(alloc: Global, edges: &Edges) -> Result<String, Fail>
+    requires { All IsSpelled edges.now }
+{
     let mut all = String::new(alloc);
     for edge in edges.slice() {
-        if edge.len <= 64 {
-            let mut text = [0; 64];
-            let len = edge.text(&mut text);
-            for byte in text.iter().take(len) {
-                all.push(char::from(*byte))?;
-            }
+        let mut text = [0; 64];
+        let len = edge.text(&mut text);
+        for byte in text.iter().take(len) {
+            all.push(char::from(*byte))?;
         }
         all.push(' ')?;
     }
@@ -55,7 +59,10 @@ fn covers_in_small_domains(rt: HostRuntime) -> Result<(), Fail> {
 #[test]
 fn whole_int32_with_the_defaults(rt: HostRuntime) -> Result<(), Fail> {
     let domain = Domain::new(i64::from(i32::MIN), i64::from(i32::MAX), 2, None)?;
-    assert_eq!(rt; (domain.bits(), domain.sparsity(), domain.trim()), (32, 2, 6));
+    assert_eq!(rt;
+        (domain.bits(), domain.sparsity(), domain.trim()),
+        (32, 2, 6)
+    );
     for v in [i32::MIN, -1, 0, i32::MAX] {
         let v = i64::from(v);
         assert!(rt; domain.holds(v));
@@ -67,14 +74,21 @@ fn whole_int32_with_the_defaults(rt: HostRuntime) -> Result<(), Fail> {
 #[test]
 fn whole_int64_at_both_ends(rt: HostRuntime) -> Result<(), Fail> {
     let domain = Domain::new(i64::MIN, i64::MAX, 8, Some(0))?;
-    assert_eq!(rt; (domain.min(), domain.max(), domain.bits()), (i64::MIN, i64::MAX, 64));
+    assert_eq!(rt;
+        (domain.min(), domain.max(), domain.bits()),
+        (i64::MIN, i64::MAX, 64)
+    );
     let cover = domain.cover(rt.alloc(), i64::MIN, i64::MAX)?;
     assert_eq!(rt; texts(rt.alloc(), &cover)?.as_str(), "root ");
     let cover = domain.cover(rt.alloc(), i64::MIN + 1, i64::MAX - 1)?;
     assert_eq!(rt; cover.len(), 3824);
     let cover = domain.cover(rt.alloc(), i64::MAX, i64::MAX)?;
-    let leaf = Edge { prefix: u64::MAX, len: 64 };
+    let leaf = Edge {
+        prefix: u64::MAX,
+        len: 64,
+    };
     assert_eq!(rt; cover.slice(), [leaf].as_slice());
+    assert_eq!(rt; cover.copy()?.slice(), [leaf].as_slice());
     for v in [i64::MIN, i64::MAX] {
         assert!(rt; domain.holds(v));
         assert_eq!(rt; domain.edges(rt.alloc(), v)?.len(), 9);

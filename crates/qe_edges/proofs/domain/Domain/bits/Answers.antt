@@ -1,5 +1,5 @@
-use Rattle.std.proofs.Common.{◌≡◌, ap, sym, ◌∙◌, subst, rules}
-use Rattle.qe_edges.specs.Rules.{bits_of, offset_of, binary_digits, HasDigits, IsDomain}
+use Rattle.std.proofs.Common.{◌≡◌, ap, ◌∙◌, subst, rules}
+use Rattle.qe_edges.specs.Rules.{bits_of, offset_of, binary_digits, IsDomain}
 use Rattle.qe_edges.proofs.OffsetLemmas.{span_digits}
 use Rattle.qe_edges.proofs.domain.Domain.bits.Goals as goal
 

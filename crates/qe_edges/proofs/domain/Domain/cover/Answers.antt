@@ -1,12 +1,11 @@
-use Rattle.std.proofs.Common.{◌≡◌, ◌+◌, ap, ◌∙◌, subst, ◌<ℤ◌, ◌≤ℤ◌, arith, rules}
+use Rattle.std.proofs.Common.{◌≡◌, ◌+◌, ◌<ℤ◌, ◌≤ℤ◌, rules}
 use Rattle.std.specs.Int.{int_max, int_min}
-use Rattle.std.proofs.lemmas.Int.{ints, to_z-of_z}
 use Rattle.std.proofs.lemmas.Result.{IfOk-weaker}
 use Rattle.qe_edges.specs.Rules.{offset_of}
-use Rattle.qe_edges.specs.Prefixes.{Lists, InInterval, IsInCover, IsCoverPrefix}
+use Rattle.qe_edges.specs.Prefixes.{Lists, InInterval, IsCoverPrefix}
 use Rattle.qe_edges.specs.Walk.{Between}
 use Rattle.qe_edges.proofs.OffsetLemmas.{interval_between, interval_empty}
-use Rattle.qe_edges.proofs.WalkLemmas.{lists_same, lists_none}
+use Rattle.qe_edges.proofs.CoverLemmas.{lists_same, lists_none}
 use Rattle.qe_edges.proofs.domain.Domain.cover.Goals as goal
 
 pub returns-then-lo-hi-clause-members : goal.returns-then-lo-hi-clause-members
@@ -15,7 +14,8 @@ returns-then-lo-hi-clause-members c =
     let first_is : c.max-lo.result ≡ int_max c.args.lo rules'.min = search rules in
     let last_is : c.min-hi.result ≡ int_min c.args.hi rules'.max = search rules in
     let none : c.min-hi.result <ℤ c.max-lo.result = search rules in
-    rw c.new.ensures (lists_none rules' (InInterval rules' c.args.lo c.args.hi) (λ x. interval_empty rules' c.args.lo c.args.hi c.max-lo.result c.min-hi.result x first_is last_is none))
+    rw c.new.ensures (lists_none rules' (InInterval rules' c.args.lo c.args.hi)
+    (λ x. interval_empty rules' c.args.lo c.args.hi c.max-lo.result c.min-hi.result x first_is last_is none))
 
 pub returns-clause-members : goal.returns-clause-members
 returns-clause-members c =

@@ -1,6 +1,4 @@
-use Rattle.std.proofs.Common.{ap, sym, ◌∙◌, subst, min, max, arith}
-use Rattle.std.specs.Int.{next_multiple_of}
-use Rattle.qe_edges.specs.Rules.{bits_of, IsShortestFrom}
+use Rattle.std.proofs.Common.{arith}
 use Rattle.qe_edges.proofs.LevelLemmas.{shortest_from}
 use Rattle.qe_edges.proofs.domain.Domain.level_from.Goals as goal
 

@@ -1,4 +1,4 @@
-use Rattle.std.proofs.Common.{◌≡◌, ◌∙◌, subst, rules}
+use Rattle.std.proofs.Common.{◌≡◌, subst, rules}
 use Rattle.qe_edges.specs.Rules.{offset_of, IsDomain}
 use Rattle.qe_edges.proofs.OffsetLemmas.{offset-lt}
 use Rattle.qe_edges.proofs.domain.Domain.offset.Goals as goal
