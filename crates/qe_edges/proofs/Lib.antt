@@ -1,0 +1,14 @@
+mod BlockLemmas
+mod BoundLemmas
+mod CountLemmas
+mod CoverLemmas
+mod EdgeLemmas
+mod LevelLemmas
+mod ListLemmas
+mod OffsetLemmas
+mod RulesLemmas
+mod ShareLemmas
+mod TallyLemmas
+mod TextLemmas
+mod WalkLemmas
+mod WidestLemmas

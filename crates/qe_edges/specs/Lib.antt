@@ -1,0 +1,4 @@
+pub mod Rules
+pub mod Prefixes
+pub mod Walk
+pub mod Texts
