@@ -1,0 +1,41 @@
+-- Names of fields: seen through the fields' view, and kept distinct.
+use Rattle.std.proofs.Common.{◌≡◌, ℕ, Bool, true, false, cond, ◌||◌, List, [], ◌∷◌, ◌++◌, map, bytes_eq, refl, sym, ap, ◌∙◌, arith, true≢false}
+use Rattle.std.proofs.lemmas.Slice.Eq.{bytes_eq-Decides}
+use Rattle.qe_bson.specs.declared.value.Value.{Value}
+use Rattle.qe_bson.specs.Names.{is_named, Distinct}
+use Rattle.qe_bson.specs.Views.{field_view}
+
+-- the view of fields has their names
+pub is_named-view : (name : List ℕ) (fields : List (List ℕ × Value)) → is_named name (map field_view fields) ≡ is_named name fields
+is_named-view name [] = refl
+is_named-view name (f ∷ fields) = ap (λ b. bytes_eq name f.0 || b) (is_named-view name fields)
+
+pub Distinct-view : (fields : List (List ℕ × Value)) → Distinct fields → Distinct (map field_view fields)
+Distinct-view [] apart = tt
+Distinct-view (f ∷ fields) apart = (is_named-view f.0 fields ∙ apart.0, Distinct-view fields apart.1)
+
+pub Distinct-from_view : (fields : List (List ℕ × Value)) → Distinct (map field_view fields) → Distinct fields
+Distinct-from_view [] apart = tt
+Distinct-from_view (f ∷ fields) apart = (sym (is_named-view f.0 fields) ∙ apart.0, Distinct-from_view fields apart.1)
+
+either_test : (p q : Bool) → (p ≡ true → q ≡ true) → q ≡ false → p ≡ false
+either_test true q implied is_false = absurd (true≢false (sym (implied refl) ∙ is_false))
+either_test false q implied is_false = refl
+
+bytes_differ : (a b : List ℕ) → bytes_eq a b ≡ false → bytes_eq b a ≡ false
+bytes_differ a b differ = either_test (bytes_eq b a) (bytes_eq a b) (λ e. (bytes_eq-Decides a b).1 (sym ((bytes_eq-Decides b a).0 e))) differ
+
+neither : (a b : Bool) → (a || b) ≡ false → (a ≡ false) × (b ≡ false)
+neither true b e = absurd cc
+neither false b e = (refl, e)
+
+pub is_named-append : {V : Type 0} (name : List ℕ) (fields more : List (List ℕ × V)) → is_named name (fields ++ more) ≡ (is_named name fields || is_named name more)
+is_named-append name [] more = refl
+is_named-append name (f ∷ fields) more = grind (arith, is_named-append name fields more)
+
+-- a field with a new name leaves names distinct
+pub Distinct-push : {V : Type 0} (fields : List (List ℕ × V)) (f : List ℕ × V) → Distinct fields → is_named f.0 fields ≡ false → Distinct (fields ++ f ∷ [])
+Distinct-push [] f apart new = (refl, tt)
+Distinct-push (g ∷ fields) f apart new =
+    let parts = neither (bytes_eq f.0 g.0) (is_named f.0 fields) new in
+    (is_named-append g.0 fields (f ∷ []) ∙ rw (apart.0, bytes_differ f.0 g.0 parts.0), Distinct-push fields f apart.1 parts.1)
