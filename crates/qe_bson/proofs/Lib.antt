@@ -1,1 +1,5 @@
+pub mod LoopLemmas
 pub mod NameLemmas
+pub mod PlainLemmas
+pub mod ReaderTools
+pub mod ZeroLemmas

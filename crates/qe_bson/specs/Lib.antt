@@ -1,3 +1,6 @@
+pub mod Answers
 pub mod Falls
 pub mod Names
+pub mod Reading
+pub mod Spelling
 pub mod Views

@@ -1,5 +1,6 @@
 -- Values as plain trees, and the size of a tree.
 use Rattle.std.specs.Prelude.{ℕ, suc, ◌+◌, List, [], ◌∷◌, map, Option, None, Some}
+use Rattle.std.specs.Borrow.{Bor}
 use Rattle.qe_bson.specs.declared.value.Plain.{Plain, fold-Plain}
 use Rattle.qe_bson.specs.declared.value.Plain.TheVariants as p
 use Rattle.qe_bson.specs.declared.value.Plain.TheOpen.{Plain-F}
@@ -25,6 +26,13 @@ plain (v.Decimal b) = p.Decimal b
 -- a field with its value as a tree
 abbrev pub field_view : List ℕ × Value → List ℕ × Plain
 field_view f = (f.0, plain f.1)
+
+-- what a reader took, and the bytes that are left
+abbrev pub taken_value : Value × Bor (List ℕ) → Plain × List ℕ
+taken_value x = (plain x.0, x.1.now)
+
+abbrev pub taken_field : (List ℕ × Value) × Bor (List ℕ) → (List ℕ × Plain) × List ℕ
+taken_field x = (field_view x.0, x.1.now)
 
 -- the fields of a value that is a document
 abbrev pub document_in : Value → Option (List (List ℕ × Plain))

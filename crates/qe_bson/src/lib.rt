@@ -2,7 +2,10 @@
 #![tactic(auto)]
 
 mod fault;
+mod pieces;
+mod reading;
 mod value;
 
 pub use fault::{BsonFault, BsonKind, EncodeFault, PushFault};
+pub use reading::decode;
 pub use value::{Document, Plain, Value, Values};

@@ -259,7 +259,7 @@ impl Document {
 
 // Whether a field has the name.
 pub(crate) fn has_name(fields: &[(Text, Value)], name: &str) -> bool
-    ensures { result ≡ is_named name.now fields.now }
+    ensures { result ≡ is_named name.now (map field_view fields.now) }
 {
     for (other, _) in fields {
         if name == other.as_str() {
