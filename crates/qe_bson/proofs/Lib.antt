@@ -1,5 +1,13 @@
+pub mod AllLemmas
+pub mod DocumentLemmas
+pub mod ElementLemmas
+pub mod LevelLemmas
 pub mod LoopLemmas
 pub mod NameLemmas
+pub mod PieceAgain
+pub mod PieceLemmas
 pub mod PlainLemmas
 pub mod ReaderTools
+pub mod ValueAgain
+pub mod ValueTakes
 pub mod ZeroLemmas

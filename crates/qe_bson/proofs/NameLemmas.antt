@@ -1,5 +1,6 @@
 -- Names of fields: seen through the fields' view, and kept distinct.
 use Rattle.std.proofs.Common.{◌≡◌, ℕ, Bool, true, false, cond, ◌||◌, List, [], ◌∷◌, ◌++◌, map, bytes_eq, refl, sym, ap, ◌∙◌, arith, true≢false}
+use Rattle.std.proofs.lemmas.Bool.{or_parts}
 use Rattle.std.proofs.lemmas.Slice.Eq.{bytes_eq-Decides}
 use Rattle.qe_bson.specs.declared.value.Value.{Value}
 use Rattle.qe_bson.specs.Names.{is_named, Distinct}
@@ -25,9 +26,6 @@ either_test false q implied is_false = refl
 bytes_differ : (a b : List ℕ) → bytes_eq a b ≡ false → bytes_eq b a ≡ false
 bytes_differ a b differ = either_test (bytes_eq b a) (bytes_eq a b) (λ e. (bytes_eq-Decides a b).1 (sym ((bytes_eq-Decides b a).0 e))) differ
 
-neither : (a b : Bool) → (a || b) ≡ false → (a ≡ false) × (b ≡ false)
-neither true b e = absurd cc
-neither false b e = (refl, e)
 
 pub is_named-append : {V : Type 0} (name : List ℕ) (fields more : List (List ℕ × V)) → is_named name (fields ++ more) ≡ (is_named name fields || is_named name more)
 is_named-append name [] more = refl
@@ -37,5 +35,13 @@ is_named-append name (f ∷ fields) more = grind (arith, is_named-append name fi
 pub Distinct-push : {V : Type 0} (fields : List (List ℕ × V)) (f : List ℕ × V) → Distinct fields → is_named f.0 fields ≡ false → Distinct (fields ++ f ∷ [])
 Distinct-push [] f apart new = (refl, tt)
 Distinct-push (g ∷ fields) f apart new =
-    let parts = neither (bytes_eq f.0 g.0) (is_named f.0 fields) new in
+    let parts = or_parts (bytes_eq f.0 g.0) (is_named f.0 fields) new in
     (is_named-append g.0 fields (f ∷ []) ∙ rw (apart.0, bytes_differ f.0 g.0 parts.0), Distinct-push fields f apart.1 parts.1)
+
+-- a name among distinct ones isn't among those before it
+pub Distinct-middle : {V : Type 0} (before : List (List ℕ × V)) (f : List ℕ × V) (after : List (List ℕ × V)) → Distinct (before ++ f ∷ after) → is_named f.0 before ≡ false
+Distinct-middle [] f after apart = refl
+Distinct-middle (g ∷ before) f after apart =
+    let parts = or_parts (is_named g.0 before) (is_named g.0 (f ∷ after)) (sym (is_named-append g.0 before (f ∷ after)) ∙ apart.0) in
+    let differ = or_parts (bytes_eq g.0 f.0) (is_named g.0 after) parts.1 in
+    rw (bytes_differ g.0 f.0 differ.0, Distinct-middle before f after apart.1) refl

@@ -89,14 +89,14 @@ unfolding spelled
 spelled-Doc fs = search (rules, the_lemmas, map-map)
 
 pub out-Doc : (fs : List (List ℕ × Plain)) → out-Plain (p.Doc fs) ≡ Plain-F.Doc fs
-out-Doc fs = search (rules, the_lemmas, map-map)
+out-Doc fs = search (rules, the_lemmas)
 
 pub spelled-Array : (vs : List Plain) → spelled (p.Array vs) ≡ record { kind = 0x04; bytes = framed (items_bytes 0 (map spelled vs)) }
 unfolding spelled
 spelled-Array vs = search (rules, the_lemmas, map-map)
 
 pub out-Array : (vs : List Plain) → out-Plain (p.Array vs) ≡ Plain-F.Array vs
-out-Array vs = search (rules, the_lemmas, map-map)
+out-Array vs = search (rules, the_lemmas)
 
 -- a tree is what it opens to, rolled again
 pub rolled : (v : Plain) → roll-Plain (out-Plain v) ≡ v

@@ -35,17 +35,17 @@ begins_at end [] = Err (At end NoTerminator)
 begins_at end (b ∷ []) = unless (not (b == 0)) end (b ∷ []) NoTerminator (Ok None)
 begins_at end (b ∷ (c ∷ bytes)) = unless (b == 0) end (b ∷ (c ∷ bytes)) LengthWrong (unless (not (is_type b)) end (b ∷ (c ∷ bytes)) TypeUnknown (Ok (Some (b, c ∷ bytes))))
 
+abbrev pub longer : ℕ → Option (List ℕ × List ℕ) → Option (List ℕ × List ℕ)
+longer b None = None
+longer b (Some s) = Some (b ∷ s.0, s.1)
+
 -- what stands before the first 0, and what behind it, where that isn't the document's last byte
 abbrev pub split_zero : List ℕ → Option (List ℕ × List ℕ)
 split_zero [] = None
 split_zero (b ∷ []) = None
 split_zero (b ∷ (c ∷ bytes)) = if b == 0 then Some ([], c ∷ bytes) else longer b (split_zero (c ∷ bytes))
-  where
-    longer : ℕ → Option (List ℕ × List ℕ) → Option (List ℕ × List ℕ)
-    longer b None = None
-    longer b (Some s) = Some (b ∷ s.0, s.1)
 
-abbrev named_by : ℕ → List ℕ → Option (List ℕ × List ℕ) → Result (List ℕ × List ℕ) BsonFault
+abbrev pub named_by : ℕ → List ℕ → Option (List ℕ × List ℕ) → Result (List ℕ × List ℕ) BsonFault
 named_by end bytes None = Err (At (end - length bytes) NoTerminator)
 named_by end bytes (Some s) = unless (not (is_utf8 s.0)) end bytes NotUtf8 (Ok s)
 

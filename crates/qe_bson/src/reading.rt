@@ -238,6 +238,11 @@ fn document(alloc: Global, bytes: &[u8]) -> Result<(Document, usize), BsonFault>
 /// The document that begins the bytes, and how many of them it takes. A fault is the first from the left; its place
 /// is the number of bytes before it.
 pub fn decode(alloc: Global, bytes: &[u8]) -> Result<(Document, usize), BsonFault>
+    // What is read is spelled so by the first bytes.
+    ensures found { IfOk result (λ x. Begins bytes.now x.0 x.1) }
+    // What is spelled so is read, unless memory runs out.
+    ensures only { (fields : List (List ℕ × Plain)) (n : ℕ) → Begins bytes.now fields n → Gives (λ x. x) result (Ok (fields, n)) }
+    // Which fault it is.
     ensures exact { Gives (λ x. x) result (document_at bytes.now) }
 {
     document(alloc, bytes)
