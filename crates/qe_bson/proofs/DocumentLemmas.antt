@@ -5,7 +5,7 @@ use Rattle.std.specs.Int.{w32, to_le_bytes, from_le_bytes}
 use Rattle.qe_bson.specs.Answers.{Gives}
 use Rattle.std.proofs.Math.Seq.{take-add}
 use Rattle.std.proofs.lemmas.Bool.{ltb-false, leb-false, le-ltb, lt-leb, or_parts, or_from}
-use Rattle.std.proofs.lemmas.List.{take_at, drop_at, take-append-drop, length-append, length-take, length-drop}
+use Rattle.std.proofs.lemmas.List.{append-nil, take_at, drop_at, take-append-drop, length-append, length-take, length-drop}
 use Rattle.std.proofs.lemmas.Nat.{le_bytes_4, from_le_bytes-to_le_bytes_4}
 use Rattle.qe_bson.specs.declared.fault.BsonFault.{BsonFault}
 use Rattle.qe_bson.specs.declared.value.Plain.{Plain}
@@ -92,3 +92,7 @@ begins_again bytes fs n begins =
 pub is_found : (bytes : List ℕ) (r : Result (List (List ℕ × Plain) × ℕ) BsonFault) → IsBytes bytes → Gives (λ x. x) r (document_at bytes) → IfOk r (λ x. Begins bytes x.0 x.1)
 is_found bytes (Ok x) fits given = document_takes bytes x fits given
 is_found bytes (Err fault) fits given = tt
+
+-- the bytes of a document are read as it
+pub written_again : (fs : List (List ℕ × Plain)) (out : List ℕ) → IsDocument fs → out ≡ document_bytes fs → document_at out ≡ Ok (fs, length out)
+written_again fs out is written = rw written (ap document_at (sym (append-nil (document_bytes fs))) ∙ document_again fs [] is)

@@ -1,4 +1,6 @@
 pub mod AllLemmas
+pub mod AloneLemmas
+pub mod DepthLemmas
 pub mod DocumentLemmas
 pub mod ElementLemmas
 pub mod LevelLemmas
@@ -8,6 +10,8 @@ pub mod PieceAgain
 pub mod PieceLemmas
 pub mod PlainLemmas
 pub mod ReaderTools
+pub mod StreamLemmas
 pub mod ValueAgain
 pub mod ValueTakes
+pub mod WriteLemmas
 pub mod ZeroLemmas

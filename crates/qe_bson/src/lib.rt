@@ -1,11 +1,16 @@
 //! Documents of BSON 1.1, of the types that the project uses, and Extended JSON.
 #![tactic(auto)]
 
+mod bounds;
 mod fault;
 mod pieces;
+mod reader;
 mod reading;
 mod value;
+mod writing;
 
 pub use fault::{BsonFault, BsonKind, EncodeFault, PushFault};
+pub use reader::Reader;
 pub use reading::decode;
 pub use value::{Document, Plain, Value, Values};
+pub use writing::{encode, value_bytes};
