@@ -25,6 +25,12 @@ IsBytes-take n bytes fits i =
 pub IsBytes-rest : (b : ℕ) (bytes : List ℕ) → IsBytes (b ∷ bytes) → IsBytes bytes
 IsBytes-rest b bytes fits i = fits (suc i)
 
+pub IsBytes-push : (bytes : List ℕ) → IsBytes bytes → IsBytes (bytes ++ 0 ∷ [])
+IsBytes-push [] fits zero = omega arith
+IsBytes-push [] fits (suc i) = omega arith
+IsBytes-push (b ∷ bytes) fits zero = fits 0
+IsBytes-push (b ∷ bytes) fits (suc i) = IsBytes-push bytes (IsBytes-rest b bytes fits) i
+
 -- the value of a step that did not fail
 pub bind_ok : {A B : Type 0} (r : Result A BsonFault) (f : A → Result B BsonFault) (y : B) → (r >>= f) ≡ Ok y → (x : A) × (r ≡ Ok x) × (f x ≡ Ok y)
 bind_ok (Ok x) f y e = (x, refl, e)

@@ -161,3 +161,9 @@ document_at bytes = do
   n ← length_at bytes
   fields ← fields_in 100 n (take (n - 4) (drop 4 bytes))
   Ok (fields, n)
+
+-- a value that stands alone, as all that is before the last byte of a document at depth 1
+unfoldable pub alone_at : ℕ → List ℕ → Result Plain BsonFault
+alone_at kind bytes = do
+  v ← value_at 99 kind (length bytes + 1) (bytes ++ 0 ∷ [])
+  unless (not (length v.1 == 1)) (length bytes + 1) v.1 LengthWrong (Ok v.0)

@@ -109,3 +109,9 @@ pub record Begins (bytes : List ℕ) (fs : List (List ℕ × Plain)) (n : ℕ) :
   pub document : IsDocument fs
   pub front : take n bytes ≡ document_bytes fs
   pub within : n ≤ length bytes
+
+-- the type and the bytes spell the value, which fits in a document
+pub record IsAlone (kind : ℕ) (bytes : List ℕ) (v : Plain) : Type 0 where
+  pub type_is : kind ≡ (spelled v).kind
+  pub bytes_are : bytes ≡ (spelled v).bytes
+  pub fits : Fits_with (FieldsFit 99) (ItemsFit 99) (out-Plain v)

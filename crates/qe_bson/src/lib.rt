@@ -3,6 +3,7 @@
 
 mod bounds;
 mod fault;
+mod names;
 mod pieces;
 mod reader;
 mod reading;
@@ -11,6 +12,6 @@ mod writing;
 
 pub use fault::{BsonFault, BsonKind, EncodeFault, PushFault};
 pub use reader::Reader;
-pub use reading::decode;
+pub use reading::{decode, value_from};
 pub use value::{Document, Plain, Value, Values};
 pub use writing::{encode, value_bytes};

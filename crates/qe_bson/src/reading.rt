@@ -1,19 +1,22 @@
 //! Reading documents.
 
-ghost use Rattle.std.specs.Prelude.{◌≡◌, ◌≢◌, ℕ, ◌-◌, ◌≤◌, [], List, length, map, option_map, Ok, bytes_eq, decimal, false, IfOk, IfSome};
+ghost use Rattle.std.specs.Prelude.{◌≡◌, ◌≢◌, ℕ, ◌-◌, ◌≤◌, ◌<◌, ◌^◌, [], ◌∷◌, ◌++◌, List, length, map, drop, option_map, Ok, bytes_eq, decimal, false, IfOk, IfSome};
 ghost use Rattle.qe_bson.specs.Names.{is_named};
+ghost use Rattle.qe_bson.specs.Seen.{Knows};
 ghost use Rattle.qe_bson.specs.Answers.{Gives};
-ghost use Rattle.qe_bson.specs.Reading.{value_with, value_at, field_at, item_at, all_at, fields_in, items_in, length_at, document_at};
-ghost use Rattle.qe_bson.specs.Spelling.{Begins};
+ghost use Rattle.qe_bson.specs.Reading.{value_with, value_at, field_at, item_at, all_at, fields_in, items_in, length_at, document_at, alone_at};
+ghost use Rattle.qe_bson.specs.Spelling.{Begins, IsAlone};
 ghost use Rattle.qe_bson.specs.Views.{plain, field_view, taken_value, taken_field};
 ghost use Rattle.qe_bson.specs.declared.value.Plain.{Plain};
 
 use crate::fault::{BsonFault, BsonKind};
 use crate::pieces::{at, begins, binary, boolean, fixed, frame, name, string};
-use crate::value::{Document, Value, Values, has_name};
+use crate::names::is_new;
+use crate::value::{Document, Value, Values};
 use itoa::Buffer;
 use qe_base::Text;
 use std::alloc::Global;
+use std::collections::BTreeSet;
 
 /// The greatest number of levels of a document.
 pub(crate) const DEPTH: u32 = 100;
@@ -121,9 +124,10 @@ fn fields_of(alloc: Global, until: usize, bytes: &[u8], room: u32) -> Result<Doc
     ensures { Gives (λ d. d) result (all_at (field_at (value_at room)) (length bytes.now) [] until bytes.now) }
 {
     let mut fields = Vec::new(alloc);
+    let mut seen = BTreeSet::new(alloc);
     let mut rest = bytes;
     for _ in 0..bytes.len() {
-        match field_of(alloc, &fields, until, rest, room)? {
+        match field_of(alloc, &fields, &mut seen, until, rest, room)? {
             None => return Ok(Document { fields }),
             Some((field, after)) => {
                 fields.push(field)?;
@@ -156,15 +160,17 @@ fn items_of(alloc: Global, until: usize, bytes: &[u8], room: u32) -> Result<Valu
 // The next field of a document that has these before it.
 #[cycle(read)]
 #[tactic(auto, unfolding(crate::specs::Reading::field_at))]
-fn field_of<'a>(alloc: Global, before: &[(Text, Value)], until: usize, bytes: &'a [u8], room: u32) -> Result<Option<((Text, Value), &'a [u8])>, BsonFault>
+fn field_of<'a>(alloc: Global, before: &[(Text, Value)], seen: &mut BTreeSet<&'a str>, until: usize, bytes: &'a [u8], room: u32) -> Result<Option<((Text, Value), &'a [u8])>, BsonFault>
+    requires { Knows seen.old (drop 16 (map field_view before.now)) }
     ensures exact { Gives (λ o. option_map taken_field o) result (field_at (value_at room) (map field_view before.now) until bytes.now) }
     ensures new { IfOk result (λ o. IfSome o (λ x. is_named x.0.0 (map field_view before.now) ≡ false)) }
+    ensures knows { IfOk result (λ o. IfSome o (λ x. Knows seen.new (drop 16 (map field_view before.now ++ field_view x.0 ∷ [])))) }
 {
     match begins(until, bytes)? {
         None => Ok(None),
         Some((kind, after)) => {
             let (name, rest) = name(until, after)?;
-            if has_name(before, name) {
+            if !is_new(before, seen, name)? {
                 return Err(at(until, after, BsonKind::DuplicateName));
             }
             let (value, rest) = value_of(alloc, kind, until, rest, room)?;
@@ -246,4 +252,32 @@ pub fn decode(alloc: Global, bytes: &[u8]) -> Result<(Document, usize), BsonFaul
     ensures exact { Gives (λ x. x) result (document_at bytes.now) }
 {
     document(alloc, bytes)
+}
+
+// The value that is all that stands before the last byte.
+#[tactic(auto, unfolding(crate::specs::Reading::alone_at))]
+fn value_alone(alloc: Global, kind: u8, bytes: &[u8]) -> Result<Value, BsonFault>
+    ensures { Gives plain result (alone_at kind bytes.now) }
+{
+    let mut whole = Vec::from_slice(alloc, bytes)?;
+    whole.push(0)?;
+    let until = whole.len();
+    let (value, rest) = value_of(alloc, kind, until, &whole, DEPTH - 1)?;
+    if rest.len() != 1 {
+        return Err(at(until, rest, BsonKind::LengthWrong));
+    }
+    Ok(value)
+}
+
+/// The value of a type that the bytes spell, all of the bytes, as they stand behind an element's name. Places count
+/// from the first of them.
+pub fn value_from(alloc: Global, kind: u8, bytes: &[u8]) -> Result<Value, BsonFault>
+    // What is read is spelled so.
+    ensures found { IfOk result (λ v. IsAlone kind bytes.now (plain v)) }
+    // What is spelled so is read, unless memory runs out.
+    ensures only { (v : Plain) → IsAlone kind bytes.now v → length bytes.now < 2 ^ 31 → Gives plain result (Ok v) }
+    // Which fault it is.
+    ensures exact { Gives plain result (alone_at kind bytes.now) }
+{
+    value_alone(alloc, kind, bytes)
 }

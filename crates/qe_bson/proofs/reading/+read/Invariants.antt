@@ -1,5 +1,6 @@
-use Rattle.std.proofs.Common.{◌≡◌, ◌+◌, ◌-◌, ◌*◌, [], length, map}
+use Rattle.std.proofs.Common.{◌≡◌, ◌+◌, ◌-◌, ◌*◌, [], length, map, drop}
 use Rattle.qe_bson.specs.Names.{Distinct}
+use Rattle.qe_bson.specs.Seen.{Knows}
 use Rattle.qe_bson.specs.Reading.{value_at, field_at, item_at, all_at}
 use Rattle.qe_bson.specs.Views.{plain, field_view}
 use Rattle.qe_bson.proofs.reading.+read.Given as goal
@@ -29,6 +30,7 @@ abbrev pub invariant-fields_of-loop : goal.invariant-fields_of-loop
 invariant-fields_of-loop l = record {
   so_far : all_at (field_at (value_at l.room)) (length l.bytes - l.counter) (map field_view l.fields.items) l.until l.rest ≡ all_at (field_at (value_at l.room)) (length l.bytes) [] l.until l.bytes;
   distinct : Distinct l.fields.items;
+  knows : Knows l.seen (drop 16 (map field_view l.fields.items));
 }
 
 abbrev pub invariant-items_of-loop : goal.invariant-items_of-loop
