@@ -16,7 +16,6 @@ AllFrom P before [] = Unit {0}
 AllFrom P before (x ∷ xs) = P before x × AllFrom P (before ++ x ∷ []) xs
 
 module _ {A : Type 0} (one : List A → ℕ → List ℕ → Result (Option (A × List ℕ)) BsonFault) (e : List A → A → List ℕ) (P : List A → A → Type 0) where
-
   -- one element that is read is spelled so
   pub record OneTakes : Type 0 where
     pub none : (before : List A) (end : ℕ) (bytes : List ℕ) → one before end bytes ≡ Ok None → bytes ≡ 0 ∷ []
@@ -60,7 +59,7 @@ module _ {A : Type 0} (one : List A → ℕ → List ℕ → Result (Option (A �
       let later : List ℕ = spelled_from e (before ++ x ∷ []) xs in
       let regrouped : (e before x ++ later) ++ (0 ∷ []) ≡ e before x ++ (later ++ (0 ∷ [])) = append_assoc (e before x) later (0 ∷ []) in
       let read : one before end (e before x ++ (later ++ (0 ∷ []))) ≡ Ok (Some (x, later ++ (0 ∷ []))) =
-          reads.some before end x (later ++ (0 ∷ [])) each.0 (omega (arith, length-append later (0 ∷ []))) in
+      reads.some before end x (later ++ (0 ∷ [])) each.0 (omega (arith, length-append later (0 ∷ []))) in
       let others : all_at one turns (before ++ x ∷ []) end (later ++ (0 ∷ [])) ≡ Ok ((before ++ x ∷ []) ++ xs) =
-          all_again reads turns (before ++ x ∷ []) end xs each.1 (omega (arith, reads.long before x, length-append (e before x) later)) in
+      all_again reads turns (before ++ x ∷ []) end xs each.1 (omega (arith, reads.long before x, length-append (e before x) later)) in
       ap (λ (bytes : List ℕ). all_at one (suc turns) before end bytes) regrouped ∙ rw (read, others, append_assoc before (x ∷ []) xs) refl

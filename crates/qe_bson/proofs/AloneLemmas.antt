@@ -60,7 +60,7 @@ unfolding alone_at
 alone_again kind bytes v is short =
     let until : ℕ = length bytes + 1 in
     let read : value_at 99 (spelled v).kind until ((spelled v).bytes ++ 0 ∷ []) ≡ Ok (v, 0 ∷ []) =
-        value_again (FieldsFit 99) (ItemsFit 99) (fields_in 99) (items_in 99) (level_again 99) v is.fits until (0 ∷ []) (omega arith) (omega (arith, short, ap (λ (t : List ℕ). length t) is.bytes_are)) in
+    value_again (FieldsFit 99) (ItemsFit 99) (fields_in 99) (items_in 99) (level_again 99) v is.fits until (0 ∷ []) (omega arith) (omega (arith, short, ap (λ (t : List ℕ). length t) is.bytes_are)) in
     rw (ap (λ (k : ℕ). value_at 99 k until (bytes ++ 0 ∷ [])) is.type_is ∙ ap (λ (t : List ℕ). value_at 99 (spelled v).kind until (t ++ 0 ∷ [])) is.bytes_are ∙ read) refl
 
 pub is_found_alone : (kind : ℕ) (bytes : List ℕ) (r : Result Value BsonFault) → IsBytes bytes → Gives plain r (alone_at kind bytes) → IfOk r (λ v. IsAlone kind bytes (plain v))

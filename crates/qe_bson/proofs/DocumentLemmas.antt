@@ -26,12 +26,24 @@ length_takes : (bytes : List ℕ) (n : ℕ) → length_at bytes ≡ Ok n → Lon
 unfolding length_at
 length_takes bytes n e =
     let m : ℕ = from_le_bytes w32 (take 4 bytes) in
-    elim (chosen (ltb (length bytes) 4) _ _ (Ok n) e) [ inl h ↦ absurd (let wrong = h.1 in cc) | inr a ↦
-    elim (chosen (ltb m 5 || leb (2 ^ 31) m) _ _ (Ok n) a.1) [ inl h ↦ absurd (let wrong = h.1 in cc) | inr b ↦
-    elim (chosen (ltb 16777216 m) _ _ (Ok n) b.1) [ inl h ↦ absurd (let wrong = h.1 in cc) | inr c ↦
-    elim (chosen (ltb (length bytes) m) _ _ (Ok n) c.1) [ inl h ↦ absurd (let wrong = h.1 in cc) | inr d ↦
-      let made : Long bytes m = record { is = refl; some = ltb-false _ _ a.0; least = ltb-false _ _ (or_parts _ _ b.0).0; most = ltb-false _ _ c.0; within = ltb-false _ _ d.0 } in
-      subst (λ (k : ℕ). Long bytes k) (ok_is m n d.1) made ] ] ] ]
+    elim (chosen (ltb (length bytes) 4) _ _ (Ok n) e) [
+      | inl h ↦ absurd (let wrong = h.1 in cc)
+      | inr a ↦
+          elim (chosen (ltb m 5 || leb (2 ^ 31) m) _ _ (Ok n) a.1) [
+            | inl h ↦ absurd (let wrong = h.1 in cc)
+            | inr b ↦
+                elim (chosen (ltb 16777216 m) _ _ (Ok n) b.1) [
+                  | inl h ↦ absurd (let wrong = h.1 in cc)
+                  | inr c ↦
+                      elim (chosen (ltb (length bytes) m) _ _ (Ok n) c.1) [
+                        | inl h ↦ absurd (let wrong = h.1 in cc)
+                        | inr d ↦
+                            let made : Long bytes m = record { is = refl; some = ltb-false _ _ a.0; least = ltb-false _ _ (or_parts _ _ b.0).0; most = ltb-false _ _ c.0; within = ltb-false _ _ d.0 } in
+                            subst (λ (k : ℕ). Long bytes k) (ok_is m n d.1) made
+                      ]
+                ]
+          ]
+    ]
 
 -- what is read begins the bytes
 pub document_takes : (bytes : List ℕ) (x : List (List ℕ × Plain) × ℕ) → IsBytes bytes → document_at bytes ≡ Ok x → Begins bytes x.0 x.1

@@ -106,7 +106,6 @@ joined kind bytes after name behind text rest s first second third type_is text_
     first ∙ ap (λ (r : List ℕ). kind ∷ r) (second ∙ ap (λ (r : List ℕ). name ++ (0 ∷ r)) third ∙ sym (append_assoc name (0 ∷ text) rest)) ∙ rw (type_is, text_is) refl
 
 module _ (Fields : List (List ℕ × Plain) → Type 0) (Items : List Plain → Type 0) (value : ℕ → ℕ → List ℕ → Result (Plain × List ℕ) BsonFault) where
-
   abbrev pub Fits : Plain → Type 0
   Fits v = Fits_with Fields Items (out-Plain v)
 
@@ -146,7 +145,7 @@ module _ (Fields : List (List ℕ × Plain) → Type 0) (Items : List Plain → 
       let behind : List ℕ = s.bytes ++ rest in
       let regrouped : element f.0 s ++ rest ≡ s.kind ∷ (f.0 ++ (0 ∷ behind)) = ap (λ (r : List ℕ). s.kind ∷ r) (append_assoc f.0 (0 ∷ s.bytes) rest) in
       let begun : begins_at end (s.kind ∷ (f.0 ++ (0 ∷ behind))) ≡ Ok (Some (s.kind, f.0 ++ (0 ∷ behind))) =
-          begins_again end s.kind (f.0 ++ (0 ∷ behind)) (kind_is_type f.1).0 (kind_is_type f.1).1 (omega (arith, length-append f.0 (0 ∷ behind))) in
+      begins_again end s.kind (f.0 ++ (0 ∷ behind)) (kind_is_type f.1).0 (kind_is_type f.1).1 (omega (arith, length-append f.0 (0 ∷ behind))) in
       let named : name_at end (f.0 ++ (0 ∷ behind)) ≡ Ok (f.0, behind) = name_again end f.0 behind is (omega (arith, length-append s.bytes rest)) in
       ap (λ (bytes : List ℕ). field_at value before end bytes) regrouped ∙ rw (begun, named, new, reads f.1 fits end rest more short) refl
 
@@ -180,7 +179,7 @@ module _ (Fields : List (List ℕ × Plain) → Type 0) (Items : List Plain → 
       let behind : List ℕ = s.bytes ++ rest in
       let regrouped : element key s ++ rest ≡ s.kind ∷ (key ++ (0 ∷ behind)) = ap (λ (r : List ℕ). s.kind ∷ r) (append_assoc key (0 ∷ s.bytes) rest) in
       let begun : begins_at end (s.kind ∷ (key ++ (0 ∷ behind))) ≡ Ok (Some (s.kind, key ++ (0 ∷ behind))) =
-          begins_again end s.kind (key ++ (0 ∷ behind)) (kind_is_type v).0 (kind_is_type v).1 (omega (arith, length-append key (0 ∷ behind))) in
+      begins_again end s.kind (key ++ (0 ∷ behind)) (kind_is_type v).0 (kind_is_type v).1 (omega (arith, length-append key (0 ∷ behind))) in
       let named : name_at end (key ++ (0 ∷ behind)) ≡ Ok (key, behind) = name_again end key behind is (omega (arith, length-append s.bytes rest)) in
       let same : bytes_eq key key ≡ true = (bytes_eq-Decides key key).1 refl in
       ap (λ (bytes : List ℕ). item_at value before end bytes) regrouped ∙ rw (begun, named, same, reads v fits end rest more short) refl

@@ -48,7 +48,6 @@ items_spelled before [] = refl
 items_spelled before (v ∷ vs) = ap (λ (b : List ℕ). element (decimal (length before)) (spelled v) ++ b) (items_spelled (before ++ v ∷ []) vs ∙ ap (λ (k : ℕ). items_bytes k (map spelled vs)) (one_more before v))
 
 module _ (Fields : List (List ℕ × Plain) → Type 0) (Items : List Plain → Type 0) where
-
   -- what a level asks of each field and of each item
   abbrev pub FieldFits : List ℕ × Plain → Type 0
   FieldFits f = IsName f.0 × Fits_with Fields Items (out-Plain f.1)
@@ -108,7 +107,6 @@ module _ (Fields : List (List ℕ × Plain) → Type 0) (Items : List Plain → 
       ((IsName-decimal (length before) (omega arith), each.0, bounds.0), items_stand (before ++ v ∷ []) vs each.1 (omega (arith, one_more before v, len, bounds.1)) (omega (arith, len, bounds.2)))
 
   module _ (value : ℕ → ℕ → List ℕ → Result (Plain × List ℕ) BsonFault) where
-
     field_one_takes : ValueTakes Fields Items value → OneTakes (field_at value) field_bytes FieldRead
     field_one_takes takes = record { none = field_none Fields Items value; some = field_takes Fields Items value takes }
 
@@ -143,13 +141,13 @@ level_takes (suc room) =
     let takes : ValueTakes F I (value_at room) = value_takes F I (fields_in room) (items_in room) (level_takes room) in
     record {
       fields_take = λ end bytes fs fits e.
-        let t = all_takes (field_at (value_at room)) field_bytes (FieldRead F I) (field_one_takes F I (value_at room) takes) (length bytes) [] end bytes fs fits e in
-        subst (λ (all : List (List ℕ × Plain)). (bytes ≡ fields_bytes (map spelled_field all) ++ (0 ∷ [])) × (Distinct all × AllByRecursion (FieldFits F I) all)) (sym t.1)
-        (t.2 ∙ ap (λ (b : List ℕ). b ++ (0 ∷ [])) (fields_spelled [] t.0), (read_apart F I [] t.0 t.3 tt, read_fit F I [] t.0 t.3));
+          let t = all_takes (field_at (value_at room)) field_bytes (FieldRead F I) (field_one_takes F I (value_at room) takes) (length bytes) [] end bytes fs fits e in
+          subst (λ (all : List (List ℕ × Plain)). (bytes ≡ fields_bytes (map spelled_field all) ++ (0 ∷ [])) × (Distinct all × AllByRecursion (FieldFits F I) all)) (sym t.1)
+          (t.2 ∙ ap (λ (b : List ℕ). b ++ (0 ∷ [])) (fields_spelled [] t.0), (read_apart F I [] t.0 t.3 tt, read_fit F I [] t.0 t.3));
       items_take = λ end bytes vs fits e.
-        let t = all_takes (item_at (value_at room)) item_bytes (ItemRead F I) (item_one_takes F I (value_at room) takes) (length bytes) [] end bytes vs fits e in
-        subst (λ (all : List Plain). (bytes ≡ items_bytes 0 (map spelled all) ++ (0 ∷ [])) × AllByRecursion (ItemFits F I) all) (sym t.1)
-        (t.2 ∙ ap (λ (b : List ℕ). b ++ (0 ∷ [])) (items_spelled [] t.0), items_fit F I [] t.0 t.3);
+          let t = all_takes (item_at (value_at room)) item_bytes (ItemRead F I) (item_one_takes F I (value_at room) takes) (length bytes) [] end bytes vs fits e in
+          subst (λ (all : List Plain). (bytes ≡ items_bytes 0 (map spelled all) ++ (0 ∷ [])) × AllByRecursion (ItemFits F I) all) (sym t.1)
+          (t.2 ∙ ap (λ (b : List ℕ). b ++ (0 ∷ [])) (items_spelled [] t.0), items_fit F I [] t.0 t.3);
     }
 
 -- what is spelled at some level, and fits, is read again
@@ -162,17 +160,17 @@ level_again (suc room) =
     let reads : ValueReads F I (value_at room) = λ v fits end rest more short. value_again F I (fields_in room) (items_in room) (level_again room) v fits end rest more short in
     record {
       fields_again = λ end fs fit short.
-        let elements = fields_bytes (map spelled_field fs) in
-        let spelling : spelled_from field_bytes [] fs ≡ elements = fields_spelled [] fs in
-        let len : length (elements ++ (0 ∷ [])) ≡ length elements + 1 = length-append elements (0 ∷ []) in
-        let again = all_again (field_at (value_at room)) field_bytes (FieldStands F I) (field_one_reads F I (value_at room) reads) (length (elements ++ (0 ∷ []))) [] end fs
-            (fields_stand F I [] fs fit.0 fit.1 short) (omega (arith, len, ap (λ (b : List ℕ). length b) spelling)) in
-        ap (λ (b : List ℕ). all_at (field_at (value_at room)) (length (elements ++ (0 ∷ []))) [] end (b ++ (0 ∷ []))) (sym spelling) ∙ again;
+          let elements = fields_bytes (map spelled_field fs) in
+          let spelling : spelled_from field_bytes [] fs ≡ elements = fields_spelled [] fs in
+          let len : length (elements ++ (0 ∷ [])) ≡ length elements + 1 = length-append elements (0 ∷ []) in
+          let again = all_again (field_at (value_at room)) field_bytes (FieldStands F I) (field_one_reads F I (value_at room) reads) (length (elements ++ (0 ∷ []))) [] end fs
+          (fields_stand F I [] fs fit.0 fit.1 short) (omega (arith, len, ap (λ (b : List ℕ). length b) spelling)) in
+          ap (λ (b : List ℕ). all_at (field_at (value_at room)) (length (elements ++ (0 ∷ []))) [] end (b ++ (0 ∷ []))) (sym spelling) ∙ again;
       items_again = λ end vs fit short.
-        let elements = items_bytes 0 (map spelled vs) in
-        let spelling : spelled_from item_bytes [] vs ≡ elements = items_spelled [] vs in
-        let len : length (elements ++ (0 ∷ [])) ≡ length elements + 1 = length-append elements (0 ∷ []) in
-        let again = all_again (item_at (value_at room)) item_bytes (ItemStands F I) (item_one_reads F I (value_at room) reads) (length (elements ++ (0 ∷ []))) [] end vs
-            (items_stand F I [] vs fit (omega arith) short) (omega (arith, len, ap (λ (b : List ℕ). length b) spelling)) in
-        ap (λ (b : List ℕ). all_at (item_at (value_at room)) (length (elements ++ (0 ∷ []))) [] end (b ++ (0 ∷ []))) (sym spelling) ∙ again;
+          let elements = items_bytes 0 (map spelled vs) in
+          let spelling : spelled_from item_bytes [] vs ≡ elements = items_spelled [] vs in
+          let len : length (elements ++ (0 ∷ [])) ≡ length elements + 1 = length-append elements (0 ∷ []) in
+          let again = all_again (item_at (value_at room)) item_bytes (ItemStands F I) (item_one_reads F I (value_at room) reads) (length (elements ++ (0 ∷ []))) [] end vs
+          (items_stand F I [] vs fit (omega arith) short) (omega (arith, len, ap (λ (b : List ℕ). length b) spelling)) in
+          ap (λ (b : List ℕ). all_at (item_at (value_at room)) (length (elements ++ (0 ∷ []))) [] end (b ++ (0 ∷ []))) (sym spelling) ∙ again;
     }

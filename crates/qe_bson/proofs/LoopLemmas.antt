@@ -8,7 +8,6 @@ use Rattle.qe_bson.specs.Reading.{◌>>=◌, all_at}
 
 module _ {A : Type 0} (one : List A → ℕ → List ℕ → Result (Option (A × List ℕ)) BsonFault) (end n i : ℕ) (before : List A) (rest : List ℕ) (total : Result (List A) BsonFault)
     (so_far : all_at one (n - i) before end rest ≡ total) where
-
   -- an element is read and others follow
   pub goes_on : (x : A) (after : List ℕ) → i < n → one before end rest ≡ Ok (Some (x, after)) → all_at one (n - (i + 1)) (before ++ x ∷ []) end after ≡ total
   unfolding all_at

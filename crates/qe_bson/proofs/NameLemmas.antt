@@ -30,7 +30,6 @@ either_test false q implied is_false = refl
 bytes_differ : (a b : List ℕ) → bytes_eq a b ≡ false → bytes_eq b a ≡ false
 bytes_differ a b differ = either_test (bytes_eq b a) (bytes_eq a b) (λ e. (bytes_eq-Decides a b).1 (sym ((bytes_eq-Decides b a).0 e))) differ
 
-
 pub is_named-append : {V : Type 0} (name : List ℕ) (fields more : List (List ℕ × V)) → is_named name (fields ++ more) ≡ (is_named name fields || is_named name more)
 is_named-append name [] more = refl
 is_named-append name (f ∷ fields) more = grind (arith, is_named-append name fields more)
@@ -52,9 +51,9 @@ Distinct-middle (g ∷ before) f after apart =
 
 bytes_eq_sym : (a b : List ℕ) → bytes_eq a b ≡ bytes_eq b a
 bytes_eq_sym a b = elim (cases_Bool (bytes_eq b a)) [
-    | inl same ↦ (bytes_eq-Decides a b).1 (sym ((bytes_eq-Decides b a).0 same)) ∙ sym same
-    | inr differ ↦ bytes_differ b a differ ∙ sym differ
-  ]
+  | inl same ↦ (bytes_eq-Decides a b).1 (sym ((bytes_eq-Decides b a).0 same)) ∙ sym same
+  | inr differ ↦ bytes_differ b a differ ∙ sym differ
+]
 
 cond_or : (a b : Bool) → cond a true b ≡ (b || (a || false))
 cond_or true true = refl

@@ -17,7 +17,7 @@ count_again_of least extra end n four rest len value enough positive within some
     let total : length (four ++ rest) ≡ 4 + length rest = length-append four rest ∙ ap (λ (k : ℕ). k + length rest) len in
     let long : leb (length (four ++ rest)) 4 ≡ false = lt-leb _ _ (omega (arith, total)) in
     let right : is_wrong least extra (four ++ rest) n ≡ false =
-        or_from _ _ (le-ltb n least enough) (or_from _ _ (lt-leb (2 ^ 31) n positive) (lt-leb (length (four ++ rest)) (n + extra) (omega (arith, total)))) in
+    or_from _ _ (le-ltb n least enough) (or_from _ _ (lt-leb (2 ^ 31) n positive) (lt-leb (length (four ++ rest)) (n + extra) (omega (arith, total)))) in
     rw (long, take_at four rest 4 len, drop_at four rest 4 len, value, right) refl
 
 pub count_again : (least extra end n : ℕ) (rest : List ℕ) → least ≤ n → n < 2 ^ 31 → n + extra < length rest + 4 → 0 < length rest
@@ -35,13 +35,13 @@ unfolding string_at
 string_again end text rest utf8 short more =
     let inside : List ℕ = text ++ (0 ∷ rest) in
     let regrouped : string text ++ rest ≡ to_le_bytes w32 (length text + 1) ++ inside =
-        append_assoc (to_le_bytes w32 (length text + 1)) (text ++ (0 ∷ [])) rest ∙ ap (λ (r : List ℕ). to_le_bytes w32 (length text + 1) ++ r) (append_assoc text (0 ∷ []) rest) in
+    append_assoc (to_le_bytes w32 (length text + 1)) (text ++ (0 ∷ [])) rest ∙ ap (λ (r : List ℕ). to_le_bytes w32 (length text + 1) ++ r) (append_assoc text (0 ∷ []) rest) in
     let counted : count_at 1 4 end (to_le_bytes w32 (length text + 1) ++ inside) ≡ Ok (length text + 1, inside) =
-        count_again 1 4 end (length text + 1) inside (omega arith) short (omega (arith, length-append text (0 ∷ rest))) (omega (arith, length-append text (0 ∷ rest))) in
+    count_again 1 4 end (length text + 1) inside (omega arith) short (omega (arith, length-append text (0 ∷ rest))) (omega (arith, length-append text (0 ∷ rest))) in
     let before : length text + 1 - 1 ≡ length text = omega arith in
     let front : take (length text) inside ≡ text = take_at text (0 ∷ rest) (length text) refl in
     let behind : drop (length text + 1) inside ≡ rest =
-        ap (λ (t : List ℕ). drop (length text + 1) t) (sym (append_assoc text (0 ∷ []) rest)) ∙ drop_at (text ++ (0 ∷ [])) rest (length text + 1) (length-append text (0 ∷ [])) in
+    ap (λ (t : List ℕ). drop (length text + 1) t) (sym (append_assoc text (0 ∷ []) rest)) ∙ drop_at (text ++ (0 ∷ [])) rest (length text + 1) (length-append text (0 ∷ [])) in
     ap (λ (bytes : List ℕ). string_at end bytes) regrouped ∙ rw (counted, before, get_or_at text rest 0 (length text) refl, front, utf8, behind) refl
 
 pub binary_again : (end subtype : ℕ) (text rest : List ℕ) → length text < 2 ^ 31 → 0 < length rest → binary_at end (binary subtype text ++ rest) ≡ Ok ((subtype, text), rest)
@@ -50,7 +50,7 @@ binary_again end subtype text rest short more =
     let inside : List ℕ = subtype ∷ (text ++ rest) in
     let regrouped : binary subtype text ++ rest ≡ to_le_bytes w32 (length text) ++ inside = append_assoc (to_le_bytes w32 (length text)) (subtype ∷ text) rest in
     let counted : count_at 0 5 end (to_le_bytes w32 (length text) ++ inside) ≡ Ok (length text, inside) =
-        count_again 0 5 end (length text) inside (omega arith) short (omega (arith, length-append text rest)) (omega arith) in
+    count_again 0 5 end (length text) inside (omega arith) short (omega (arith, length-append text rest)) (omega arith) in
     ap (λ (bytes : List ℕ). binary_at end bytes) regrouped ∙ rw (counted, take_at text rest (length text) refl, drop_at text rest (length text) refl) refl
 
 pub bool_again : (end : ℕ) (b : Bool) (rest : List ℕ) → 0 < length rest → bool_at end ((flag b ∷ []) ++ rest) ≡ Ok (b, rest)
@@ -62,6 +62,6 @@ pub frame_again : (end : ℕ) (inside rest : List ℕ) → 0 < length inside →
 unfolding frame_at
 frame_again end inside rest some short more =
     let counted : count_at 5 0 end (to_le_bytes w32 (length inside + 4) ++ (inside ++ rest)) ≡ Ok (length inside + 4, inside ++ rest) =
-        count_again 5 0 end (length inside + 4) (inside ++ rest) (omega arith) short (omega (arith, length-append inside rest)) (omega (arith, length-append inside rest)) in
+    count_again 5 0 end (length inside + 4) (inside ++ rest) (omega arith) short (omega (arith, length-append inside rest)) (omega (arith, length-append inside rest)) in
     let four : length inside + 4 - 4 ≡ length inside = omega arith in
     ap (λ (bytes : List ℕ). frame_at end bytes) (append_assoc (to_le_bytes w32 (length inside + 4)) inside rest) ∙ rw (counted, four, take_at inside rest (length inside) refl, drop_at inside rest (length inside) refl) refl

@@ -34,12 +34,12 @@ count_takes least extra end bytes x fits e =
     let front : to_le_bytes w32 n ≡ take 4 bytes = le_bytes_4 (take 4 bytes) n len (IsBytes-take 4 bytes fits) refl in
     let room : n + extra < length bytes = leb-false _ _ short.1 in
     let made : Counts least extra bytes (n, drop 4 bytes) = record {
-        parts = sym (take-append-drop 4 bytes) ∙ ap (λ (f : List ℕ). f ++ drop 4 bytes) (sym front);
-        rest_fits = IsBytes-drop 4 bytes fits;
-        enough = ltb-false _ _ right.0;
-        positive = leb-false _ _ short.0;
-        within = omega (arith, length-drop 4 bytes);
-      } in
+      parts = sym (take-append-drop 4 bytes) ∙ ap (λ (f : List ℕ). f ++ drop 4 bytes) (sym front);
+      rest_fits = IsBytes-drop 4 bytes fits;
+      enough = ltb-false _ _ right.0;
+      positive = leb-false _ _ short.0;
+      within = omega (arith, length-drop 4 bytes);
+    } in
     subst (λ (y : ℕ × List ℕ). Counts least extra bytes y) (ok_is (n, drop 4 bytes) x v.1) made
 
 pub string_takes : (end : ℕ) (bytes : List ℕ) (x : List ℕ × List ℕ) → IsBytes bytes → string_at end bytes ≡ Ok x → (bytes ≡ string x.0 ++ x.1) × IsBytes x.1 × (is_utf8 x.0 ≡ true) × (length x.0 + 1 < 2 ^ 31)
@@ -60,7 +60,7 @@ string_takes end bytes x fits e =
     let inside : n.1 ≡ text ++ (0 ∷ drop n.0 n.1) = sym (take-append-drop (n.0 - 1) n.1) ∙ ap (λ (r : List ℕ). text ++ r) behind in
     let regrouped : text ++ (0 ∷ drop n.0 n.1) ≡ (text ++ (0 ∷ [])) ++ drop n.0 n.1 = sym (append_assoc text (0 ∷ []) (drop n.0 n.1)) in
     let whole : bytes ≡ string text ++ drop n.0 n.1 =
-        counted.parts ∙ ap (λ (r : List ℕ). to_le_bytes w32 n.0 ++ r) (inside ∙ regrouped) ∙ sym (append_assoc (to_le_bytes w32 n.0) (text ++ (0 ∷ [])) (drop n.0 n.1)) ∙ ap (λ (k : ℕ). (to_le_bytes w32 k ++ (text ++ (0 ∷ []))) ++ drop n.0 n.1) (sym len) in
+    counted.parts ∙ ap (λ (r : List ℕ). to_le_bytes w32 n.0 ++ r) (inside ∙ regrouped) ∙ sym (append_assoc (to_le_bytes w32 n.0) (text ++ (0 ∷ [])) (drop n.0 n.1)) ∙ ap (λ (k : ℕ). (to_le_bytes w32 k ++ (text ++ (0 ∷ []))) ++ drop n.0 n.1) (sym len) in
     subst (λ (y : List ℕ × List ℕ). (bytes ≡ string y.0 ++ y.1) × IsBytes y.1 × (is_utf8 y.0 ≡ true) × (length y.0 + 1 < 2 ^ 31)) (ok_is (text, drop n.0 n.1) x v.1)
     (whole, IsBytes-drop n.0 n.1 counted.rest_fits, not-false _ v.0, omega (arith, counted.positive))
 
@@ -82,7 +82,7 @@ binary_takes end bytes x fits e =
     let len : length front ≡ n.0 = omega (arith, length-take n.0 (drop 1 n.1), length-drop 1 n.1, counted.within) in
     let inside : n.1 ≡ (get_or n.1 0 0 ∷ front) ++ rest = cons_first n.1 some ∙ ap (λ (r : List ℕ). get_or n.1 0 0 ∷ r) (sym (take-append-drop n.0 (drop 1 n.1))) in
     let whole : bytes ≡ binary (get_or n.1 0 0) front ++ rest =
-        counted.parts ∙ ap (λ (r : List ℕ). to_le_bytes w32 n.0 ++ r) inside ∙ sym (append_assoc (to_le_bytes w32 n.0) (get_or n.1 0 0 ∷ front) rest) ∙ ap (λ (k : ℕ). (to_le_bytes w32 k ++ (get_or n.1 0 0 ∷ front)) ++ rest) (sym len) in
+    counted.parts ∙ ap (λ (r : List ℕ). to_le_bytes w32 n.0 ++ r) inside ∙ sym (append_assoc (to_le_bytes w32 n.0) (get_or n.1 0 0 ∷ front) rest) ∙ ap (λ (k : ℕ). (to_le_bytes w32 k ++ (get_or n.1 0 0 ∷ front)) ++ rest) (sym len) in
     subst (λ (y : (ℕ × List ℕ) × List ℕ). (bytes ≡ binary y.0.0 y.0.1 ++ y.1) × IsBytes y.1) (ok_is ((get_or n.1 0 0, front), rest) x b.2) (whole, IsBytes-drop n.0 (drop 1 n.1) (IsBytes-drop 1 n.1 counted.rest_fits))
 
 one_byte : (t : List ℕ) → length t ≡ 1 → t ≡ get_or t 0 0 ∷ []
@@ -124,9 +124,9 @@ frame_takes end bytes x fits e =
     let cut = Takes-cut (n.0 - 4) n.1 counted.rest_fits in
     let len : length (take (n.0 - 4) n.1) + 4 ≡ n.0 = omega (arith, length-take (n.0 - 4) n.1, counted.within, counted.enough) in
     let made : Frames bytes (take (n.0 - 4) n.1, drop (n.0 - 4) n.1) = record {
-        parts = counted.parts ∙ ap (λ (r : List ℕ). to_le_bytes w32 n.0 ++ r) cut.parts ∙ sym (append_assoc (to_le_bytes w32 n.0) (take (n.0 - 4) n.1) (drop (n.0 - 4) n.1)) ∙ ap (λ (k : ℕ). (to_le_bytes w32 k ++ take (n.0 - 4) n.1) ++ drop (n.0 - 4) n.1) (sym len);
-        inside_fits = cut.text_fits;
-        rest_fits = cut.rest_fits;
-        positive = omega (arith, counted.positive);
-      } in
+      parts = counted.parts ∙ ap (λ (r : List ℕ). to_le_bytes w32 n.0 ++ r) cut.parts ∙ sym (append_assoc (to_le_bytes w32 n.0) (take (n.0 - 4) n.1) (drop (n.0 - 4) n.1)) ∙ ap (λ (k : ℕ). (to_le_bytes w32 k ++ take (n.0 - 4) n.1) ++ drop (n.0 - 4) n.1) (sym len);
+      inside_fits = cut.text_fits;
+      rest_fits = cut.rest_fits;
+      positive = omega (arith, counted.positive);
+    } in
     subst (λ (y : List ℕ × List ℕ). Frames bytes y) (ok_is (take (n.0 - 4) n.1, drop (n.0 - 4) n.1) x b.2) made

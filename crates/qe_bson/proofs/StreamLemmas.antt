@@ -25,8 +25,8 @@ front_shorter front more fs n short begins =
     elim (cases_lt (length front) n) [
       | inl lt ↦ lt
       | inr le ↦
-        let whole : document_at front ≡ Ok (fs, n) = begins_again front fs n (begins_front front more fs n le begins) in
-        let both = sym whole ∙ short.1 in absurd cc
+          let whole : document_at front ≡ Ok (fs, n) = begins_again front fs n (begins_front front more fs n le begins) in
+          let both = sym whole ∙ short.1 in absurd cc
     ]
 
 -- after an answer without a fault the reader waits

@@ -24,7 +24,6 @@ signed_again_8 : (z : ℤ) → FitsSigned w64 z → cast_signed w64 (from_le_byt
 signed_again_8 z fits = ap (λ (k : ℕ). cast_signed w64 k) (from_le_bytes-to_le_bytes_8 (cast_unsigned w64 z) (Fits-lt-pow {w = w64} {n = cast_unsigned w64 z} (Fits-of_z {w = w64} {z = z} fits))) ∙ to_z-of_z w64 z fits
 
 module _ (Fields : List (List ℕ × Plain) → Type 0) (Items : List Plain → Type 0) (fields : ℕ → List ℕ → Result (List (List ℕ × Plain)) BsonFault) (items : ℕ → List ℕ → Result (List Plain) BsonFault) where
-
   -- what documents and arrays hold is read again
   pub record InnerReads : Type 0 where
     pub fields_again : (end : ℕ) (fs : List (List ℕ × Plain)) → Fields fs → length (fields_bytes (map spelled_field fs)) < 2 ^ 31 → fields end (fields_bytes (map spelled_field fs) ++ (0 ∷ [])) ≡ Ok fs

@@ -37,7 +37,6 @@ signed_8 : (t : List ℕ) → IsBytes t → length t ≡ 8 → to_le_bytes w64 (
 signed_8 t fits len = ap (λ (k : ℕ). to_le_bytes w64 k) (of_z-to_z w64 (from_le_bytes w64 t) (below_8 t fits)) ∙ le_back_8 t fits len
 
 module _ (Fields : List (List ℕ × Plain) → Type 0) (Items : List Plain → Type 0) where
-
   -- a value that was read, its type byte and what is left
   pub record ValueRead (kind : ℕ) (bytes : List ℕ) (x : Plain × List ℕ) : Type 0 where
     pub type_is : kind ≡ (spelled x.0).kind
@@ -76,7 +75,6 @@ module _ (Fields : List (List ℕ × Plain) → Type 0) (Items : List Plain → 
       ap (λ (k : ℕ). to_le_bytes w32 k ++ inside) len ∙ ap (λ (b : List ℕ). to_le_bytes w32 (length elements + 5) ++ b) is
 
   module _ (fields : ℕ → List ℕ → Result (List (List ℕ × Plain)) BsonFault) (items : ℕ → List ℕ → Result (List Plain) BsonFault) (inner : InnerTakes fields items) where
-
     document_arm : (kind end : ℕ) (bytes : List ℕ) (x : Plain × List ℕ) → IsBytes bytes → eqb kind 0x03 ≡ true → (frame_at end bytes >>= λ y. fields (end - length y.1) y.0 >>= λ fs. Ok (p.Doc fs, y.1)) ≡ Ok x → ValueRead kind bytes x
     document_arm kind end bytes x fits is given =
         let b = bind_ok (frame_at end bytes) (λ y. fields (end - length y.1) y.0 >>= λ fs. Ok (p.Doc fs, y.1)) x given in
@@ -116,17 +114,56 @@ module _ (Fields : List (List ℕ × Plain) → Type 0) (Items : List Plain → 
     -- a value of any type
     pub value_takes : (kind end : ℕ) (bytes : List ℕ) (x : Plain × List ℕ) → IsBytes bytes → value_with fields items kind end bytes ≡ Ok x → ValueRead kind bytes x
     value_takes kind end bytes x fits e =
-        elim (chosen (eqb kind 0x01) _ _ (Ok x) e) [ inl h ↦ fixed_arm 0x01 8 (λ t. p.Double t) (λ t f len. (tree.spelled-Double t, rw (tree.out-Double t) len)) kind end bytes x fits h.0 h.1 | inr n1 ↦
-        elim (chosen (eqb kind 0x02) _ _ (Ok x) n1.1) [ inl h ↦ string_arm kind end bytes x fits h.0 h.1 | inr n2 ↦
-        elim (chosen (eqb kind 0x03) _ _ (Ok x) n2.1) [ inl h ↦ document_arm kind end bytes x fits h.0 h.1 | inr n3 ↦
-        elim (chosen (eqb kind 0x04) _ _ (Ok x) n3.1) [ inl h ↦ array_arm kind end bytes x fits h.0 h.1 | inr n4 ↦
-        elim (chosen (eqb kind 0x05) _ _ (Ok x) n4.1) [ inl h ↦ binary_arm kind end bytes x fits h.0 h.1 | inr n5 ↦
-        elim (chosen (eqb kind 0x07) _ _ (Ok x) n5.1) [ inl h ↦ fixed_arm 0x07 12 (λ t. p.ObjectId t) (λ t f len. (tree.spelled-ObjectId t, rw (tree.out-ObjectId t) len)) kind end bytes x fits h.0 h.1 | inr n7 ↦
-        elim (chosen (eqb kind 0x08) _ _ (Ok x) n7.1) [ inl h ↦ bool_arm kind end bytes x fits h.0 h.1 | inr n8 ↦
-        elim (chosen (eqb kind 0x09) _ _ (Ok x) n8.1) [ inl h ↦ fixed_arm 0x09 8 (λ t. p.Date (cast_signed w64 (from_le_bytes w64 t))) (λ t f len. (tree.spelled-Date (cast_signed w64 (from_le_bytes w64 t)) ∙ ap (λ (b : List ℕ). record { kind = 0x09; bytes = b }) (signed_8 t f len), rw (tree.out-Date (cast_signed w64 (from_le_bytes w64 t))) (sfits_to_z {w = w64} {n = from_le_bytes w64 t} (Fits-of_lt {w = w64} {n = from_le_bytes w64 t} (below_8 t f))))) kind end bytes x fits h.0 h.1 | inr n9 ↦
-        elim (chosen (eqb kind 0x0a) _ _ (Ok x) n9.1) [ inl h ↦ read_as 0x0a kind bytes [] bytes p.Null x h.0 tree.spelled-Null (rw tree.out-Null tt) refl fits (ok_is _ _ h.1) | inr n10 ↦
-        elim (chosen (eqb kind 0x10) _ _ (Ok x) n10.1) [ inl h ↦ fixed_arm 0x10 4 (λ t. p.Int32 (cast_signed w32 (from_le_bytes w32 t))) (λ t f len. (tree.spelled-Int32 (cast_signed w32 (from_le_bytes w32 t)) ∙ ap (λ (b : List ℕ). record { kind = 0x10; bytes = b }) (signed_4 t f len), rw (tree.out-Int32 (cast_signed w32 (from_le_bytes w32 t))) (sfits_to_z {w = w32} {n = from_le_bytes w32 t} (Fits-of_lt {w = w32} {n = from_le_bytes w32 t} (below_4 t f))))) kind end bytes x fits h.0 h.1 | inr n16 ↦
-        elim (chosen (eqb kind 0x11) _ _ (Ok x) n16.1) [ inl h ↦ fixed_arm 0x11 8 (λ t. p.Timestamp (from_le_bytes w64 t)) (λ t f len. (tree.spelled-Timestamp (from_le_bytes w64 t) ∙ ap (λ (b : List ℕ). record { kind = 0x11; bytes = b }) (le_back_8 t f len), rw (tree.out-Timestamp (from_le_bytes w64 t)) (below_8 t f))) kind end bytes x fits h.0 h.1 | inr n17 ↦
-        elim (chosen (eqb kind 0x12) _ _ (Ok x) n17.1) [ inl h ↦ fixed_arm 0x12 8 (λ t. p.Int64 (cast_signed w64 (from_le_bytes w64 t))) (λ t f len. (tree.spelled-Int64 (cast_signed w64 (from_le_bytes w64 t)) ∙ ap (λ (b : List ℕ). record { kind = 0x12; bytes = b }) (signed_8 t f len), rw (tree.out-Int64 (cast_signed w64 (from_le_bytes w64 t))) (sfits_to_z {w = w64} {n = from_le_bytes w64 t} (Fits-of_lt {w = w64} {n = from_le_bytes w64 t} (below_8 t f))))) kind end bytes x fits h.0 h.1 | inr n18 ↦
-        elim (chosen (eqb kind 0x13) _ _ (Ok x) n18.1) [ inl h ↦ fixed_arm 0x13 16 (λ t. p.Decimal t) (λ t f len. (tree.spelled-Decimal t, rw (tree.out-Decimal t) len)) kind end bytes x fits h.0 h.1 | inr n19 ↦
-        absurd (let none = n19.1 in cc) ] ] ] ] ] ] ] ] ] ] ] ] ]
+        elim (chosen (eqb kind 0x01) _ _ (Ok x) e) [
+          | inl h ↦ fixed_arm 0x01 8 (λ t. p.Double t) (λ t f len. (tree.spelled-Double t, rw (tree.out-Double t) len)) kind end bytes x fits h.0 h.1
+          | inr n1 ↦
+              elim (chosen (eqb kind 0x02) _ _ (Ok x) n1.1) [
+                | inl h ↦ string_arm kind end bytes x fits h.0 h.1
+                | inr n2 ↦
+                    elim (chosen (eqb kind 0x03) _ _ (Ok x) n2.1) [
+                      | inl h ↦ document_arm kind end bytes x fits h.0 h.1
+                      | inr n3 ↦
+                          elim (chosen (eqb kind 0x04) _ _ (Ok x) n3.1) [
+                            | inl h ↦ array_arm kind end bytes x fits h.0 h.1
+                            | inr n4 ↦
+                                elim (chosen (eqb kind 0x05) _ _ (Ok x) n4.1) [
+                                  | inl h ↦ binary_arm kind end bytes x fits h.0 h.1
+                                  | inr n5 ↦
+                                      elim (chosen (eqb kind 0x07) _ _ (Ok x) n5.1) [
+                                        | inl h ↦ fixed_arm 0x07 12 (λ t. p.ObjectId t) (λ t f len. (tree.spelled-ObjectId t, rw (tree.out-ObjectId t) len)) kind end bytes x fits h.0 h.1
+                                        | inr n7 ↦
+                                            elim (chosen (eqb kind 0x08) _ _ (Ok x) n7.1) [
+                                              | inl h ↦ bool_arm kind end bytes x fits h.0 h.1
+                                              | inr n8 ↦
+                                                  elim (chosen (eqb kind 0x09) _ _ (Ok x) n8.1) [
+                                                    | inl h ↦ fixed_arm 0x09 8 (λ t. p.Date (cast_signed w64 (from_le_bytes w64 t))) (λ t f len. (tree.spelled-Date (cast_signed w64 (from_le_bytes w64 t)) ∙ ap (λ (b : List ℕ). record { kind = 0x09; bytes = b }) (signed_8 t f len), rw (tree.out-Date (cast_signed w64 (from_le_bytes w64 t))) (sfits_to_z {w = w64} {n = from_le_bytes w64 t} (Fits-of_lt {w = w64} {n = from_le_bytes w64 t} (below_8 t f))))) kind end bytes x fits h.0 h.1
+                                                    | inr n9 ↦
+                                                        elim (chosen (eqb kind 0x0a) _ _ (Ok x) n9.1) [
+                                                          | inl h ↦ read_as 0x0a kind bytes [] bytes p.Null x h.0 tree.spelled-Null (rw tree.out-Null tt) refl fits (ok_is _ _ h.1)
+                                                          | inr n10 ↦
+                                                              elim (chosen (eqb kind 0x10) _ _ (Ok x) n10.1) [
+                                                                | inl h ↦ fixed_arm 0x10 4 (λ t. p.Int32 (cast_signed w32 (from_le_bytes w32 t))) (λ t f len. (tree.spelled-Int32 (cast_signed w32 (from_le_bytes w32 t)) ∙ ap (λ (b : List ℕ). record { kind = 0x10; bytes = b }) (signed_4 t f len), rw (tree.out-Int32 (cast_signed w32 (from_le_bytes w32 t))) (sfits_to_z {w = w32} {n = from_le_bytes w32 t} (Fits-of_lt {w = w32} {n = from_le_bytes w32 t} (below_4 t f))))) kind end bytes x fits h.0 h.1
+                                                                | inr n16 ↦
+                                                                    elim (chosen (eqb kind 0x11) _ _ (Ok x) n16.1) [
+                                                                      | inl h ↦ fixed_arm 0x11 8 (λ t. p.Timestamp (from_le_bytes w64 t)) (λ t f len. (tree.spelled-Timestamp (from_le_bytes w64 t) ∙ ap (λ (b : List ℕ). record { kind = 0x11; bytes = b }) (le_back_8 t f len), rw (tree.out-Timestamp (from_le_bytes w64 t)) (below_8 t f))) kind end bytes x fits h.0 h.1
+                                                                      | inr n17 ↦
+                                                                          elim (chosen (eqb kind 0x12) _ _ (Ok x) n17.1) [
+                                                                            | inl h ↦ fixed_arm 0x12 8 (λ t. p.Int64 (cast_signed w64 (from_le_bytes w64 t))) (λ t f len. (tree.spelled-Int64 (cast_signed w64 (from_le_bytes w64 t)) ∙ ap (λ (b : List ℕ). record { kind = 0x12; bytes = b }) (signed_8 t f len), rw (tree.out-Int64 (cast_signed w64 (from_le_bytes w64 t))) (sfits_to_z {w = w64} {n = from_le_bytes w64 t} (Fits-of_lt {w = w64} {n = from_le_bytes w64 t} (below_8 t f))))) kind end bytes x fits h.0 h.1
+                                                                            | inr n18 ↦
+                                                                                elim (chosen (eqb kind 0x13) _ _ (Ok x) n18.1) [
+                                                                                  | inl h ↦ fixed_arm 0x13 16 (λ t. p.Decimal t) (λ t f len. (tree.spelled-Decimal t, rw (tree.out-Decimal t) len)) kind end bytes x fits h.0 h.1
+                                                                                  | inr n19 ↦
+                                                                                      absurd (let none = n19.1 in cc)
+                                                                                ]
+                                                                          ]
+                                                                    ]
+                                                              ]
+                                                        ]
+                                                  ]
+                                            ]
+                                      ]
+                                ]
+                          ]
+                    ]
+              ]
+        ]

@@ -37,13 +37,13 @@ split_zero_parts (b ∷ []) s e = absurd cc
 split_zero_parts (b ∷ (c ∷ bytes)) s e =
     elim (cases_Bool (eqb b 0)) [
       | inl zero_first ↦
-        let here : (b ∷ (c ∷ bytes) ≡ [] ++ (0 ∷ (c ∷ bytes))) × (list_any (λ b. b == 0) [] ≡ false) = (ap (λ (k : ℕ). k ∷ (c ∷ bytes)) (eqb-true b 0 zero_first), refl) in
-        let is : Some ([], c ∷ bytes) ≡ Some s = sym (rw zero_first refl) ∙ e in
-        subst (λ (y : List ℕ × List ℕ). (b ∷ (c ∷ bytes) ≡ y.0 ++ (0 ∷ y.1)) × (list_any (λ b. b == 0) y.0 ≡ false)) (some_is _ _ is) here
+          let here : (b ∷ (c ∷ bytes) ≡ [] ++ (0 ∷ (c ∷ bytes))) × (list_any (λ b. b == 0) [] ≡ false) = (ap (λ (k : ℕ). k ∷ (c ∷ bytes)) (eqb-true b 0 zero_first), refl) in
+          let is : Some ([], c ∷ bytes) ≡ Some s = sym (rw zero_first refl) ∙ e in
+          subst (λ (y : List ℕ × List ℕ). (b ∷ (c ∷ bytes) ≡ y.0 ++ (0 ∷ y.1)) × (list_any (λ b. b == 0) y.0 ≡ false)) (some_is _ _ is) here
       | inr not_first ↦
-        let t = longer_some b (split_zero (c ∷ bytes)) s (sym (rw not_first refl) ∙ e) in
-        let later = split_zero_parts (c ∷ bytes) t.0 t.1 in
-        subst (λ (y : List ℕ × List ℕ). (b ∷ (c ∷ bytes) ≡ y.0 ++ (0 ∷ y.1)) × (list_any (λ b. b == 0) y.0 ≡ false)) (sym t.2) (ap (λ (r : List ℕ). b ∷ r) later.0, or_from (eqb b 0) (list_any (λ k. k == 0) t.0.0) not_first later.1)
+          let t = longer_some b (split_zero (c ∷ bytes)) s (sym (rw not_first refl) ∙ e) in
+          let later = split_zero_parts (c ∷ bytes) t.0 t.1 in
+          subst (λ (y : List ℕ × List ℕ). (b ∷ (c ∷ bytes) ≡ y.0 ++ (0 ∷ y.1)) × (list_any (λ b. b == 0) y.0 ≡ false)) (sym t.2) (ap (λ (r : List ℕ). b ∷ r) later.0, or_from (eqb b 0) (list_any (λ k. k == 0) t.0.0) not_first later.1)
     ]
 
 -- a part without 0, a 0, and some rest are cut there

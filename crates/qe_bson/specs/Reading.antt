@@ -70,7 +70,7 @@ unfoldable pub string_at : Reader (List ℕ)
 string_at end bytes = do
   n ← count_at 1 4 end bytes
   unless (not (slice_index n.1 (n.0 - 1) == 0)) end bytes NoTerminator
-    (unless (not (is_utf8 (take (n.0 - 1) n.1))) end bytes NotUtf8 (Ok (take (n.0 - 1) n.1, drop n.0 n.1)))
+      (unless (not (is_utf8 (take (n.0 - 1) n.1))) end bytes NotUtf8 (Ok (take (n.0 - 1) n.1, drop n.0 n.1)))
 
 unfoldable pub binary_at : Reader (ℕ × List ℕ)
 binary_at end bytes = do

@@ -3,8 +3,6 @@
 ghost use Rattle.std.specs.Prelude.{◌≡◌, ℕ, ◌≤◌, nat_le, false, length};
 ghost use Rattle.qe_bson.specs.Spelling.{Fits_with, FieldsFit, ItemsFit};
 ghost use Rattle.qe_bson.specs.declared.value.Plain.{out-Plain};
-
-
 ghost use Rattle.qe_bson.specs.Views.{plain};
 ghost use Rattle.qe_bson.specs.Writing.{LeafFits, depth, fields_depth, holds_zero, items_depth, zero_in, zero_in_fields, zero_in_items};
 

@@ -15,3 +15,6 @@ pub use reader::Reader;
 pub use reading::{decode, value_from};
 pub use value::{Document, Plain, Value, Values};
 pub use writing::{encode, value_bytes};
+
+#[cfg(test)]
+mod tests;

@@ -24,7 +24,11 @@ fn add<'a>(seen: &mut BTreeSet<&'a str>, name: &'a str) -> Result<bool, AllocErr
 }
 
 /// Whether no field has the name. The set has the names from the 17th on; a new name is added where it stands there.
-pub(crate) fn is_new<'a>(before: &[(Text, Value)], seen: &mut BTreeSet<&'a str>, name: &'a str) -> Result<bool, AllocError>
+pub(crate) fn is_new<'a>(
+    before: &[(Text, Value)],
+    seen: &mut BTreeSet<&'a str>,
+    name: &'a str,
+) -> Result<bool, AllocError>
     requires { Knows seen.old (drop 16 (map field_view before.now)) }
     ensures new { IfOk result (λ new. new ≡ not (is_named name.now (map field_view before.now))) }
     ensures knows { (value : Plain) → IfOk result (λ new. new ≡ true → Knows seen.new (drop 16 (map field_view before.now ++ (name.now, value) ∷ []))) }

@@ -24,7 +24,9 @@ pub(crate) fn at(until: usize, bytes: &[u8], kind: BsonKind) -> BsonFault
 fn is_type_byte(kind: u8) -> bool
     ensures { result ≡ is_type kind }
 {
-    (0x01 <= kind && kind <= 0x05) || (0x07 <= kind && kind <= 0x0a) || (0x10 <= kind && kind <= 0x13)
+    (0x01 <= kind && kind <= 0x05)
+        || (0x07 <= kind && kind <= 0x0a)
+        || (0x10 <= kind && kind <= 0x13)
 }
 
 /// The type byte of the next element, and what follows it, or none at the document's last byte.
@@ -132,11 +134,7 @@ pub(crate) fn name(until: usize, bytes: &[u8]) -> Result<(&str, &[u8]), BsonFaul
 
 /// A string.
 #[tactic(auto, unfolding(crate::specs::Reading::string_at))]
-pub(crate) fn string(
-    alloc: Global,
-    until: usize,
-    bytes: &[u8],
-) -> Result<(Text, &[u8]), BsonFault>
+pub(crate) fn string(alloc: Global, until: usize, bytes: &[u8]) -> Result<(Text, &[u8]), BsonFault>
     ensures { Gives (λ x. (x.0, x.1.now)) result (string_at until bytes.now) }
 {
     let (n, rest) = count(until, bytes, 1, 4)?;

@@ -48,7 +48,11 @@ fn is_short(fault: BsonFault) -> bool
 }
 
 // Takes a piece where nothing is held: a whole document is read where it lies.
-fn take_first(alloc: Global, held: &mut Vec<u8>, piece: &[u8]) -> Result<Option<(Document, usize)>, BsonFault>
+fn take_first(
+    alloc: Global,
+    held: &mut Vec<u8>,
+    piece: &[u8],
+) -> Result<Option<(Document, usize)>, BsonFault>
     requires { held.old.items ≡ [] }
     ensures { Takes held.old.items piece.now held.new.items result }
 {
@@ -65,7 +69,11 @@ fn take_first(alloc: Global, held: &mut Vec<u8>, piece: &[u8]) -> Result<Option<
 }
 
 // Takes a piece behind what is held.
-fn take_more(alloc: Global, held: &mut Vec<u8>, piece: &[u8]) -> Result<Option<(Document, usize)>, BsonFault>
+fn take_more(
+    alloc: Global,
+    held: &mut Vec<u8>,
+    piece: &[u8],
+) -> Result<Option<(Document, usize)>, BsonFault>
     requires { IsShort held.old.items }
     ensures { Takes held.old.items piece.now held.new.items result }
 {
@@ -85,7 +93,11 @@ fn take_more(alloc: Global, held: &mut Vec<u8>, piece: &[u8]) -> Result<Option<(
     }
 }
 
-fn take_piece(alloc: Global, held: &mut Vec<u8>, piece: &[u8]) -> Result<Option<(Document, usize)>, BsonFault>
+fn take_piece(
+    alloc: Global,
+    held: &mut Vec<u8>,
+    piece: &[u8],
+) -> Result<Option<(Document, usize)>, BsonFault>
     requires { IsShort held.old.items }
     ensures { Takes held.old.items piece.now held.new.items result }
 {

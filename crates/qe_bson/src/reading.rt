@@ -10,8 +10,8 @@ ghost use Rattle.qe_bson.specs.Views.{plain, field_view, taken_value, taken_fiel
 ghost use Rattle.qe_bson.specs.declared.value.Plain.{Plain};
 
 use crate::fault::{BsonFault, BsonKind};
-use crate::pieces::{at, begins, binary, boolean, fixed, frame, name, string};
 use crate::names::is_new;
+use crate::pieces::{at, begins, binary, boolean, fixed, frame, name, string};
 use crate::value::{Document, Value, Values};
 use itoa::Buffer;
 use qe_base::Text;
@@ -25,7 +25,13 @@ pub(crate) const DEPTH: u32 = 100;
 pub(crate) const LIMIT: usize = 16_777_216;
 
 // A value that holds no document.
-fn scalar(alloc: Global, kind: u8, until: usize, bytes: &[u8], room: u32) -> Result<(Value, &[u8]), BsonFault>
+fn scalar(
+    alloc: Global,
+    kind: u8,
+    until: usize,
+    bytes: &[u8],
+    room: u32,
+) -> Result<(Value, &[u8]), BsonFault>
     requires document { kind ≢ 3 }
     requires array { kind ≢ 4 }
     ensures { Gives taken_value result (value_at room kind until bytes.now) }
@@ -78,7 +84,13 @@ fn scalar(alloc: Global, kind: u8, until: usize, bytes: &[u8], room: u32) -> Res
 
 // A value of this type, where so many levels are left for the documents that it holds.
 #[cycle(read)]
-fn value_of(alloc: Global, kind: u8, until: usize, bytes: &[u8], room: u32) -> Result<(Value, &[u8]), BsonFault>
+fn value_of(
+    alloc: Global,
+    kind: u8,
+    until: usize,
+    bytes: &[u8],
+    room: u32,
+) -> Result<(Value, &[u8]), BsonFault>
     ensures { Gives taken_value result (value_at room kind until bytes.now) }
 {
     match kind {
@@ -102,7 +114,10 @@ fn document_of(alloc: Global, until: usize, bytes: &[u8], room: u32) -> Result<D
     ensures { Gives (λ d. d) result (fields_in room until bytes.now) }
 {
     if room == 0 {
-        return Err(BsonFault::At { place: until.saturating_sub(bytes.len()).saturating_sub(4), kind: BsonKind::TooDeep });
+        return Err(BsonFault::At {
+            place: until.saturating_sub(bytes.len()).saturating_sub(4),
+            kind: BsonKind::TooDeep,
+        });
     }
     fields_of(alloc, until, bytes, room - 1)
 }
@@ -113,7 +128,10 @@ fn array_of(alloc: Global, until: usize, bytes: &[u8], room: u32) -> Result<Valu
     ensures { Gives (λ vs. vs) result (items_in room until bytes.now) }
 {
     if room == 0 {
-        return Err(BsonFault::At { place: until.saturating_sub(bytes.len()).saturating_sub(4), kind: BsonKind::TooDeep });
+        return Err(BsonFault::At {
+            place: until.saturating_sub(bytes.len()).saturating_sub(4),
+            kind: BsonKind::TooDeep,
+        });
     }
     items_of(alloc, until, bytes, room - 1)
 }
@@ -135,7 +153,10 @@ fn fields_of(alloc: Global, until: usize, bytes: &[u8], room: u32) -> Result<Doc
             }
         }
     }
-    Err(BsonFault::At { place: until, kind: BsonKind::NoTerminator })
+    Err(BsonFault::At {
+        place: until,
+        kind: BsonKind::NoTerminator,
+    })
 }
 
 // All items to the array's end. There are fewer of them than bytes.
@@ -154,13 +175,23 @@ fn items_of(alloc: Global, until: usize, bytes: &[u8], room: u32) -> Result<Valu
             }
         }
     }
-    Err(BsonFault::At { place: until, kind: BsonKind::NoTerminator })
+    Err(BsonFault::At {
+        place: until,
+        kind: BsonKind::NoTerminator,
+    })
 }
 
 // The next field of a document that has these before it.
 #[cycle(read)]
 #[tactic(auto, unfolding(crate::specs::Reading::field_at))]
-fn field_of<'a>(alloc: Global, before: &[(Text, Value)], seen: &mut BTreeSet<&'a str>, until: usize, bytes: &'a [u8], room: u32) -> Result<Option<((Text, Value), &'a [u8])>, BsonFault>
+fn field_of<'a>(
+    alloc: Global,
+    before: &[(Text, Value)],
+    seen: &mut BTreeSet<&'a str>,
+    until: usize,
+    bytes: &'a [u8],
+    room: u32,
+) -> Result<Option<((Text, Value), &'a [u8])>, BsonFault>
     requires { Knows seen.old (drop 16 (map field_view before.now)) }
     ensures exact { Gives (λ o. option_map taken_field o) result (field_at (value_at room) (map field_view before.now) until bytes.now) }
     ensures new { IfOk result (λ o. IfSome o (λ x. is_named x.0.0 (map field_view before.now) ≡ false)) }
@@ -182,7 +213,13 @@ fn field_of<'a>(alloc: Global, before: &[(Text, Value)], seen: &mut BTreeSet<&'a
 // The next item of an array that has so many before it.
 #[cycle(read)]
 #[tactic(auto, unfolding(crate::specs::Reading::item_at))]
-fn item_of(alloc: Global, count: usize, until: usize, bytes: &[u8], room: u32) -> Result<Option<(Value, &[u8])>, BsonFault>
+fn item_of(
+    alloc: Global,
+    count: usize,
+    until: usize,
+    bytes: &[u8],
+    room: u32,
+) -> Result<Option<(Value, &[u8])>, BsonFault>
     ensures { (before : List Plain) → length before ≡ count → Gives (λ o. option_map taken_value o) result (item_at (value_at room) before until bytes.now) }
 {
     match begins(until, bytes)? {
@@ -213,18 +250,30 @@ fn outer_length(bytes: &[u8]) -> Result<usize, BsonFault>
     ensures within { IfOk result (λ n. (5 ≤ n) × (n ≤ length bytes.now)) }
 {
     if bytes.len() < 4 {
-        return Err(BsonFault::At { place: bytes.len(), kind: BsonKind::Short });
+        return Err(BsonFault::At {
+            place: bytes.len(),
+            kind: BsonKind::Short,
+        });
     }
     let (front, _) = bytes.split_at(4);
     let n = u32::from_le_bytes([front[0], front[1], front[2], front[3]]) as usize;
     if n < 5 || 1 << 31 <= n {
-        return Err(BsonFault::At { place: 0, kind: BsonKind::LengthWrong });
+        return Err(BsonFault::At {
+            place: 0,
+            kind: BsonKind::LengthWrong,
+        });
     }
     if n > LIMIT {
-        return Err(BsonFault::At { place: 0, kind: BsonKind::TooLong });
+        return Err(BsonFault::At {
+            place: 0,
+            kind: BsonKind::TooLong,
+        });
     }
     if bytes.len() < n {
-        return Err(BsonFault::At { place: bytes.len(), kind: BsonKind::Short });
+        return Err(BsonFault::At {
+            place: bytes.len(),
+            kind: BsonKind::Short,
+        });
     }
     Ok(n)
 }

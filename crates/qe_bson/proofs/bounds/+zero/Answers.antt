@@ -24,9 +24,9 @@ value_has_zero-returns-in-Array-clause-fits t c = λ room deep none.
 
 pub value_has_zero-returns-in_default : goal.value_has_zero-returns-in_default
 value_has_zero-returns-in_default t c = record {
-    zero = sym (zero_leaf c.args.value.now (λ fs. c.in_default.not-Doc fs) (λ vs. c.in_default.not-Array vs));
-    fits = λ room deep none. leaf_fits (FieldsFit room) (ItemsFit room) c.args.value.now (λ fs. c.in_default.not-Doc fs) (λ vs. c.in_default.not-Array vs) c.fits_by_type.ensures;
-  }
+  zero = sym (zero_leaf c.args.value.now (λ fs. c.in_default.not-Doc fs) (λ vs. c.in_default.not-Array vs));
+  fits = λ room deep none. leaf_fits (FieldsFit room) (ItemsFit room) c.args.value.now (λ fs. c.in_default.not-Doc fs) (λ vs. c.in_default.not-Array vs) c.fits_by_type.ensures;
+}
 
 pub has_zero-loop-name-preserved : goal.has_zero-loop-name-preserved
 has_zero-loop-name-preserved t c =
@@ -39,7 +39,7 @@ has_zero-loop-name-preserved t c =
       zero = rw (left, name_clear, value_clear) at c.loop-name.invariant.zero;
       deep = omega (arith, deep);
       fits = λ room bound rest. c.loop-name.invariant.fits room bound
-        (rw left ((record { utf8 = c.as_str.ensures.utf8; no_zero = name_clear }, c.value_has_zero.ensures.fits room (omega (arith, deep)) c.if-value_has_zero.false), rest));
+          (rw left ((record { utf8 = c.as_str.ensures.utf8; no_zero = name_clear }, c.value_has_zero.ensures.fits room (omega (arith, deep)) c.if-value_has_zero.false), rest));
     }
 
 pub has_zero-returns-clause-fits : goal.has_zero-returns-clause-fits
@@ -47,7 +47,7 @@ has_zero-returns-clause-fits t c = λ room deep none.
     let items = c.deref-name-items.result.now in
     let seen : map field_view items ≡ c.args.document.now = ap (λ fs. map field_view fs) c.deref-name-items.ensures.value ∙ c.document.view_is in
     rw (← seen) (fields_fit room (map field_view items) (Distinct-view items (rw c.deref-name-items.ensures.value c.document.invariant)) (rw (← seen) at deep)
-      (λ r bound. c.loop-name.invariant.fits r bound (rw (drop_all c.loop-name.name-index items c.loop-name-test.false) tt)))
+    (λ r bound. c.loop-name.invariant.fits r bound (rw (drop_all c.loop-name.name-index items c.loop-name-test.false) tt)))
 
 pub array_has_zero-loop-item-preserved : goal.array_has_zero-loop-item-preserved
 array_has_zero-loop-item-preserved t c =

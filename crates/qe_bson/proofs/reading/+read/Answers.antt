@@ -19,10 +19,10 @@ fields_of-returns-in-None t c =
 
 pub fields_of-loop-preserved : goal.fields_of-loop-preserved
 fields_of-loop-preserved t c = record {
-    so_far = rw (c.in_ok-push-in-Some.ensures.items, map_push) (goes_on _ _ _ _ _ _ _ c.loop.invariant.so_far (field_view c.in-Some.field) c.in-Some.after.now c.loop-test.true (rw (c.deref.ensures.value, c.in-Some.is) at c.in_ok-field_of.ensures.exact));
-    distinct = rw (c.in_ok-push-in-Some.ensures.items) (Distinct-push c.loop.fields.items c.in-Some.field c.loop.invariant.distinct (sym (is_named-view _ c.loop.fields.items) ∙ (rw (c.deref.ensures.value, c.in-Some.is) at c.in_ok-field_of.ensures.new)));
-    knows = rw (c.in_ok-push-in-Some.ensures.items, map_push) (rw (c.deref.ensures.value, c.in-Some.is) at c.in_ok-field_of.ensures.knows);
-  }
+  so_far = rw (c.in_ok-push-in-Some.ensures.items, map_push) (goes_on _ _ _ _ _ _ _ c.loop.invariant.so_far (field_view c.in-Some.field) c.in-Some.after.now c.loop-test.true (rw (c.deref.ensures.value, c.in-Some.is) at c.in_ok-field_of.ensures.exact));
+  distinct = rw (c.in_ok-push-in-Some.ensures.items) (Distinct-push c.loop.fields.items c.in-Some.field c.loop.invariant.distinct (sym (is_named-view _ c.loop.fields.items) ∙ (rw (c.deref.ensures.value, c.in-Some.is) at c.in_ok-field_of.ensures.new)));
+  knows = rw (c.in_ok-push-in-Some.ensures.items, map_push) (rw (c.deref.ensures.value, c.in-Some.is) at c.in_ok-field_of.ensures.knows);
+}
 
 pub fields_of-returns : goal.fields_of-returns
 fields_of-returns t c = runs_out _ _ _ _ _ _ _ c.loop.invariant.so_far c.loop-test.false

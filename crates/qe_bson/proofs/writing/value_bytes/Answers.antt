@@ -12,7 +12,7 @@ pub returns-in_err-put_value-clause-err : goal.returns-in_err-put_value-clause-e
 returns-in_err-put_value-clause-err c =
     let p = err_from_is_err_and c.from_residual.result c.from_residual.ensures.1 in
     rw (p.1, p.2) (alone_refused c.in_err-put_value.field-0.0 c.put_value.new.out.items c.args.value.now
-      (subst (λ (old : List ℕ). Writes old c.put_value.new.out.items (Err c.in_err-put_value.field-0.0) (spell c.args.value.now).bytes) c.new-out.ensures.items c.in_err-put_value.ensures))
+    (subst (λ (old : List ℕ). Writes old c.put_value.new.out.items (Err c.in_err-put_value.field-0.0) (spell c.args.value.now).bytes) c.new-out.ensures.items c.in_err-put_value.ensures))
 
 pub returns-then-len-gt-LIMIT-clause-err : goal.returns-then-len-gt-LIMIT-clause-err
 returns-then-len-gt-LIMIT-clause-err c =
@@ -28,9 +28,11 @@ returns-then-not-value_within-clause-err c =
 pub returns-then-value_has_zero-clause-err : goal.returns-then-value_has_zero-clause-err
 returns-then-value_has_zero-clause-err c =
     let written = rw c.new-out.ensures.items at c.in_ok-put_value.ensures in
-    let flat : depth (plain c.args.value.now) ≤ 99 = leb-true _ _ (sym c.value_within.ensures ∙ c.if-not-value_within.false) in
-    (omega (arith, alone_length (plain c.args.value.now), ap (λ (s : Spelled). length s.bytes) (spell_plain c.args.value.now), ap (λ (b : List ℕ). length b) written.0, c.if-len-gt-LIMIT.false, c.len.ensures, c.put_value.new.out.ok), omega (arith, flat),
-     rw (sym c.value_has_zero.ensures.zero ∙ c.if-value_has_zero.true) refl)
+    let flat : depth (plain c.args.value.now) ≤ 99 = leb-true _ _ (sym c.value_within.ensures ∙ c.if-not-value_within.false) in (
+      omega (arith, alone_length (plain c.args.value.now), ap (λ (s : Spelled). length s.bytes) (spell_plain c.args.value.now), ap (λ (b : List ℕ). length b) written.0, c.if-len-gt-LIMIT.false, c.len.ensures, c.put_value.new.out.ok),
+      omega (arith, flat),
+      rw (sym c.value_has_zero.ensures.zero ∙ c.if-value_has_zero.true) refl,
+    )
 
 pub returns-clause-ok : goal.returns-clause-ok
 returns-clause-ok c =
