@@ -1,7 +1,8 @@
 -- What more bytes change, and what they don't.
-use Rattle.std.proofs.Common.{◌≡◌, ℕ, ◌+◌, ◌<◌, ◌≤◌, List, [], ◌++◌, length, take, Option, None, Some, Result, Ok, Err, refl, sym, ap, subst, ◌∙◌, arith, inl, inr}
-use Rattle.std.proofs.lemmas.Bool.{cases_lt}
-use Rattle.std.proofs.lemmas.List.{take-append-le, length-append}
+use Rattle.std.proofs.Common.{◌≡◌, ℕ, ◌+◌, ◌-◌, ◌^◌, ◌<◌, ◌≤◌, ◌||◌, false, leb, ltb, List, [], ◌++◌, length, take, drop, Option, None, Some, Result, Ok, Err, refl, sym, ap, subst, ◌∙◌, arith, inl, inr}
+use Rattle.std.specs.Int.{w32, from_le_bytes}
+use Rattle.std.proofs.lemmas.Bool.{cases_lt, cases_Bool, ltb-false, le-ltb}
+use Rattle.std.proofs.lemmas.List.{take-append-le, drop-append-le, length-append, length-drop}
 use Rattle.qe_bson.specs.declared.fault.BsonFault.{BsonFault}
 use Rattle.qe_bson.specs.declared.fault.BsonFault.TheVariants.{At}
 use Rattle.qe_bson.specs.declared.fault.BsonKind.TheVariants.{Short}
@@ -34,3 +35,21 @@ pub waits_on : (held piece now : List ℕ) (fault : Option BsonFault) (read : Op
 waits_on held piece now (Some fault) read takes = tt
 waits_on held piece now None None takes = subst IsShort (sym takes.1) takes.0
 waits_on held piece now None (Some x) takes = subst IsShort (sym takes.2) short_nothing
+
+-- what a front decides, more bytes leave
+pub decided : (front more : List ℕ) → (IsShort front → ⊥) → document_at (front ++ more) ≡ document_at front
+unfolding document_at length_at
+decided front more not_short =
+    let m : ℕ = from_le_bytes w32 (take 4 front) in
+    elim (cases_Bool (ltb (length front) 4)) [ inl few ↦ absurd (not_short (length front, rw few refl)) | inr some ↦
+      let le : 4 ≤ length front = ltb-false _ _ some in
+      let long : ltb (length (front ++ more)) 4 ≡ false = le-ltb _ _ (omega (arith, length-append front more)) in
+      let same : take 4 (front ++ more) ≡ take 4 front = take-append-le 4 front more le in
+      elim (cases_Bool (ltb m 5 || leb (2 ^ 31) m)) [ inl wrong ↦ rw (some, long, same, wrong) refl | inr right ↦
+        elim (cases_Bool (ltb 16777216 m)) [ inl big ↦ rw (some, long, same, right, big) refl | inr small ↦
+          elim (cases_Bool (ltb (length front) m)) [ inl short ↦ absurd (not_short (length front, rw (some, right, small, short) refl)) | inr there ↦
+            let within : m ≤ length front = ltb-false _ _ there in
+            let there_too : ltb (length (front ++ more)) m ≡ false = le-ltb _ _ (omega (arith, length-append front more)) in
+            let behind : drop 4 (front ++ more) ≡ drop 4 front ++ more = drop-append-le 4 front more le in
+            let inside : take (m - 4) (drop 4 front ++ more) ≡ take (m - 4) (drop 4 front) = take-append-le (m - 4) (drop 4 front) more (omega (arith, length-drop 4 front)) in
+            rw (some, long, same, right, small, there, there_too, behind, inside) refl ] ] ] ]

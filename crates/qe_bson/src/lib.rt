@@ -10,8 +10,8 @@ mod reading;
 mod value;
 mod writing;
 
-pub use fault::{BsonFault, BsonKind, EncodeFault, PushFault};
-pub use reader::Reader;
+pub use fault::{BsonFault, BsonKind, EncodeFault, JsonFault, PushFault};
+pub use reader::{Reader, more_bytes_leave_what_is_decided};
 pub use reading::{decode, value_from};
 pub use value::{Document, Plain, Value, Values};
 pub use writing::{encode, value_bytes};

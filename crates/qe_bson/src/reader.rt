@@ -1,8 +1,9 @@
 //! Documents that come in pieces.
 
-ghost use Rattle.std.specs.Prelude.{◌≡◌, ℕ, ◌≤◌, [], length, None, Some, IfOk, IsTrue, ◌↔◌};
+ghost use Rattle.std.specs.Prelude.{◌≡◌, ℕ, List, [], ◌++◌, None, IsTrue, ◌↔◌};
 ghost use Rattle.qe_bson.specs.declared.fault.BsonKind.TheVariants.{Short};
 ghost use Rattle.qe_bson.specs.declared.fault.BsonFault.TheVariants.{At};
+ghost use Rattle.qe_bson.specs.Reading.{document_at};
 ghost use Rattle.qe_bson.specs.Stream.{IsShort, Takes, Feeds, Finishes};
 
 use crate::fault::{BsonFault, BsonKind};
@@ -152,4 +153,11 @@ impl Reader {
         }
         Ok(())
     }
+}
+
+/// What bytes decide, a document or a fault, stays decided whatever bytes follow. With the contract of `feed` it
+/// doesn't matter how a stream is cut: each document is the one that `decode` gives of the whole that is left.
+pub fn more_bytes_leave_what_is_decided()
+    ensures { (front more : List ℕ) → ¬ IsShort front → document_at (front ++ more) ≡ document_at front }
+{
 }
