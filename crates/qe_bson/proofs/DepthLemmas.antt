@@ -9,7 +9,7 @@ use Rattle.qe_bson.specs.declared.value.Value.{Value}
 use Rattle.qe_bson.specs.declared.value.Value.TheVariants as v
 use Rattle.qe_bson.specs.Names.{Distinct}
 use Rattle.qe_bson.specs.Spelling.{Fits_with, FieldsFit, ItemsFit}
-use Rattle.qe_bson.proofs.LevelLemmas.{FieldFits, ItemFits}
+use Rattle.qe_bson.proofs.OneLevelLemmas.{FieldFits, ItemFits}
 use Rattle.qe_bson.proofs.PlainLemmas as tree
 use Rattle.qe_bson.specs.Views.{plain, field_view}
 use Rattle.qe_bson.specs.Writing.{greatest, any_true, LeafFits, depth, fields_depth, items_depth, holds_zero, zero_in, zero_in_fields, zero_in_items}

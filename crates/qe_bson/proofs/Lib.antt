@@ -6,10 +6,13 @@ pub mod ElementLemmas
 pub mod LevelLemmas
 pub mod LoopLemmas
 pub mod NameLemmas
+pub mod NumberLemmas
+pub mod OneLevelLemmas
 pub mod PieceAgain
 pub mod PieceLemmas
 pub mod PlainLemmas
 pub mod ReaderTools
+pub mod StationLemmas
 pub mod StreamLemmas
 pub mod ValueAgain
 pub mod ValueTakes

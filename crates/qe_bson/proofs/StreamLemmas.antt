@@ -41,15 +41,27 @@ pub decided : (front more : List ℕ) → (IsShort front → ⊥) → document_a
 unfolding document_at length_at
 decided front more not_short =
     let m : ℕ = from_le_bytes w32 (take 4 front) in
-    elim (cases_Bool (ltb (length front) 4)) [ inl few ↦ absurd (not_short (length front, rw few refl)) | inr some ↦
-      let le : 4 ≤ length front = ltb-false _ _ some in
-      let long : ltb (length (front ++ more)) 4 ≡ false = le-ltb _ _ (omega (arith, length-append front more)) in
-      let same : take 4 (front ++ more) ≡ take 4 front = take-append-le 4 front more le in
-      elim (cases_Bool (ltb m 5 || leb (2 ^ 31) m)) [ inl wrong ↦ rw (some, long, same, wrong) refl | inr right ↦
-        elim (cases_Bool (ltb 16777216 m)) [ inl big ↦ rw (some, long, same, right, big) refl | inr small ↦
-          elim (cases_Bool (ltb (length front) m)) [ inl short ↦ absurd (not_short (length front, rw (some, right, small, short) refl)) | inr there ↦
-            let within : m ≤ length front = ltb-false _ _ there in
-            let there_too : ltb (length (front ++ more)) m ≡ false = le-ltb _ _ (omega (arith, length-append front more)) in
-            let behind : drop 4 (front ++ more) ≡ drop 4 front ++ more = drop-append-le 4 front more le in
-            let inside : take (m - 4) (drop 4 front ++ more) ≡ take (m - 4) (drop 4 front) = take-append-le (m - 4) (drop 4 front) more (omega (arith, length-drop 4 front)) in
-            rw (some, long, same, right, small, there, there_too, behind, inside) refl ] ] ] ]
+    elim (cases_Bool (ltb (length front) 4)) [
+      | inl few ↦ absurd (not_short (length front, rw few refl))
+      | inr some ↦
+          let le : 4 ≤ length front = ltb-false _ _ some in
+          let long : ltb (length (front ++ more)) 4 ≡ false = le-ltb _ _ (omega (arith, length-append front more)) in
+          let same : take 4 (front ++ more) ≡ take 4 front = take-append-le 4 front more le in
+          elim (cases_Bool (ltb m 5 || leb (2 ^ 31) m)) [
+            | inl wrong ↦ rw (some, long, same, wrong) refl
+            | inr right ↦
+                elim (cases_Bool (ltb 16777216 m)) [
+                  | inl big ↦ rw (some, long, same, right, big) refl
+                  | inr small ↦
+                      elim (cases_Bool (ltb (length front) m)) [
+                        | inl short ↦ absurd (not_short (length front, rw (some, right, small, short) refl))
+                        | inr there ↦
+                            let within : m ≤ length front = ltb-false _ _ there in
+                            let there_too : ltb (length (front ++ more)) m ≡ false = le-ltb _ _ (omega (arith, length-append front more)) in
+                            let behind : drop 4 (front ++ more) ≡ drop 4 front ++ more = drop-append-le 4 front more le in
+                            let inside : take (m - 4) (drop 4 front ++ more) ≡ take (m - 4) (drop 4 front) = take-append-le (m - 4) (drop 4 front) more (omega (arith, length-drop 4 front)) in
+                            rw (some, long, same, right, small, there, there_too, behind, inside) refl
+                      ]
+                ]
+          ]
+    ]

@@ -11,30 +11,12 @@ use Rattle.qe_bson.specs.declared.fault.BsonFault.{BsonFault}
 use Rattle.qe_bson.specs.declared.value.Plain.{Plain, out-Plain}
 use Rattle.qe_bson.specs.declared.value.Plain.TheOpen.{Plain-F}
 use Rattle.qe_bson.specs.declared.value.Plain.TheVariants as p
-use Rattle.qe_bson.specs.Reading.{◌>>=◌, fixed_at, string_at, binary_at, bool_at, frame_at, value_with}
+use Rattle.qe_bson.specs.Reading.{◌>>=◌, fixed_at, string_at, binary_at, bool_at, frame_at, number_at, value_with}
 use Rattle.qe_bson.specs.Spelling.{Spelled, string, binary, flag, framed, fields_bytes, items_bytes, spelled, spelled_field, Fits_with}
+use Rattle.qe_bson.proofs.NumberLemmas.{le_back_8, below_4, below_8, signed_4, signed_8}
 use Rattle.qe_bson.proofs.PieceLemmas.{string_takes, binary_takes, bool_takes, frame_takes}
 use Rattle.qe_bson.proofs.PlainLemmas as tree
 use Rattle.qe_bson.proofs.ReaderTools.{IsBytes, bind_ok, ok_is, chosen, fixed_takes}
-
--- four and eight bytes are the spelling of their number
-le_back_4 : (t : List ℕ) → IsBytes t → length t ≡ 4 → to_le_bytes w32 (from_le_bytes w32 t) ≡ t
-le_back_4 t fits len = le_bytes_4 t (from_le_bytes w32 t) len fits refl
-
-le_back_8 : (t : List ℕ) → IsBytes t → length t ≡ 8 → to_le_bytes w64 (from_le_bytes w64 t) ≡ t
-le_back_8 t fits len = le_bytes_8 t (from_le_bytes w64 t) len fits refl
-
-below_4 : (t : List ℕ) → IsBytes t → from_le_bytes w32 t < 2 ^ 32
-below_4 t fits = omega (arith, fits 0, fits 1, fits 2, fits 3)
-
-below_8 : (t : List ℕ) → IsBytes t → from_le_bytes w64 t < 2 ^ 64
-below_8 t fits = omega (arith, fits 0, fits 1, fits 2, fits 3, fits 4, fits 5, fits 6, fits 7)
-
-signed_4 : (t : List ℕ) → IsBytes t → length t ≡ 4 → to_le_bytes w32 (cast_unsigned w32 (cast_signed w32 (from_le_bytes w32 t))) ≡ t
-signed_4 t fits len = ap (λ (k : ℕ). to_le_bytes w32 k) (of_z-to_z w32 (from_le_bytes w32 t) (below_4 t fits)) ∙ le_back_4 t fits len
-
-signed_8 : (t : List ℕ) → IsBytes t → length t ≡ 8 → to_le_bytes w64 (cast_unsigned w64 (cast_signed w64 (from_le_bytes w64 t))) ≡ t
-signed_8 t fits len = ap (λ (k : ℕ). to_le_bytes w64 k) (of_z-to_z w64 (from_le_bytes w64 t) (below_8 t fits)) ∙ le_back_8 t fits len
 
 module _ (Fields : List (List ℕ × Plain) → Type 0) (Items : List Plain → Type 0) where
   -- a value that was read, its type byte and what is left
@@ -111,53 +93,58 @@ module _ (Fields : List (List ℕ × Plain) → Type 0) (Items : List Plain → 
         let t = bool_takes end bytes b.0 fits b.1 in
         read_as 0x08 kind bytes (flag b.0.0 ∷ []) b.0.1 (p.Bool b.0.0) x is (tree.spelled-Bool b.0.0) (rw (tree.out-Bool b.0.0) tt) t.0 t.1 (ok_is _ _ b.2)
 
+    -- a number of any type
+    number_takes : (kind end : ℕ) (bytes : List ℕ) (x : Plain × List ℕ) → IsBytes bytes → number_at kind end bytes ≡ Ok x → ValueRead kind bytes x
+    number_takes kind end bytes x fits e =
+        elim (chosen (eqb kind 0x09) _ _ (Ok x) e) [
+          | inl h ↦ fixed_arm 0x09 8 (λ t. p.Date (cast_signed w64 (from_le_bytes w64 t))) (λ t f len. (tree.spelled-Date (cast_signed w64 (from_le_bytes w64 t)) ∙ ap (λ (b : List ℕ). record { kind = 0x09; bytes = b }) (signed_8 t f len), rw (tree.out-Date (cast_signed w64 (from_le_bytes w64 t))) (sfits_to_z {w = w64} {n = from_le_bytes w64 t} (Fits-of_lt {w = w64} {n = from_le_bytes w64 t} (below_8 t f))))) kind end bytes x fits h.0 h.1
+          | inr not_0x09 ↦
+              elim (chosen (eqb kind 0x10) _ _ (Ok x) not_0x09.1) [
+                | inl h ↦ fixed_arm 0x10 4 (λ t. p.Int32 (cast_signed w32 (from_le_bytes w32 t))) (λ t f len. (tree.spelled-Int32 (cast_signed w32 (from_le_bytes w32 t)) ∙ ap (λ (b : List ℕ). record { kind = 0x10; bytes = b }) (signed_4 t f len), rw (tree.out-Int32 (cast_signed w32 (from_le_bytes w32 t))) (sfits_to_z {w = w32} {n = from_le_bytes w32 t} (Fits-of_lt {w = w32} {n = from_le_bytes w32 t} (below_4 t f))))) kind end bytes x fits h.0 h.1
+                | inr not_0x10 ↦
+                    elim (chosen (eqb kind 0x11) _ _ (Ok x) not_0x10.1) [
+                      | inl h ↦ fixed_arm 0x11 8 (λ t. p.Timestamp (from_le_bytes w64 t)) (λ t f len. (tree.spelled-Timestamp (from_le_bytes w64 t) ∙ ap (λ (b : List ℕ). record { kind = 0x11; bytes = b }) (le_back_8 t f len), rw (tree.out-Timestamp (from_le_bytes w64 t)) (below_8 t f))) kind end bytes x fits h.0 h.1
+                      | inr not_0x11 ↦
+                          elim (chosen (eqb kind 0x12) _ _ (Ok x) not_0x11.1) [
+                            | inl h ↦ fixed_arm 0x12 8 (λ t. p.Int64 (cast_signed w64 (from_le_bytes w64 t))) (λ t f len. (tree.spelled-Int64 (cast_signed w64 (from_le_bytes w64 t)) ∙ ap (λ (b : List ℕ). record { kind = 0x12; bytes = b }) (signed_8 t f len), rw (tree.out-Int64 (cast_signed w64 (from_le_bytes w64 t))) (sfits_to_z {w = w64} {n = from_le_bytes w64 t} (Fits-of_lt {w = w64} {n = from_le_bytes w64 t} (below_8 t f))))) kind end bytes x fits h.0 h.1
+                            | inr not_0x12 ↦
+                                absurd (let none = not_0x12.1 in cc)
+                          ]
+                    ]
+              ]
+        ]
+
     -- a value of any type
     pub value_takes : (kind end : ℕ) (bytes : List ℕ) (x : Plain × List ℕ) → IsBytes bytes → value_with fields items kind end bytes ≡ Ok x → ValueRead kind bytes x
     value_takes kind end bytes x fits e =
         elim (chosen (eqb kind 0x01) _ _ (Ok x) e) [
           | inl h ↦ fixed_arm 0x01 8 (λ t. p.Double t) (λ t f len. (tree.spelled-Double t, rw (tree.out-Double t) len)) kind end bytes x fits h.0 h.1
-          | inr n1 ↦
-              elim (chosen (eqb kind 0x02) _ _ (Ok x) n1.1) [
+          | inr not_0x01 ↦
+              elim (chosen (eqb kind 0x02) _ _ (Ok x) not_0x01.1) [
                 | inl h ↦ string_arm kind end bytes x fits h.0 h.1
-                | inr n2 ↦
-                    elim (chosen (eqb kind 0x03) _ _ (Ok x) n2.1) [
+                | inr not_0x02 ↦
+                    elim (chosen (eqb kind 0x03) _ _ (Ok x) not_0x02.1) [
                       | inl h ↦ document_arm kind end bytes x fits h.0 h.1
-                      | inr n3 ↦
-                          elim (chosen (eqb kind 0x04) _ _ (Ok x) n3.1) [
+                      | inr not_0x03 ↦
+                          elim (chosen (eqb kind 0x04) _ _ (Ok x) not_0x03.1) [
                             | inl h ↦ array_arm kind end bytes x fits h.0 h.1
-                            | inr n4 ↦
-                                elim (chosen (eqb kind 0x05) _ _ (Ok x) n4.1) [
+                            | inr not_0x04 ↦
+                                elim (chosen (eqb kind 0x05) _ _ (Ok x) not_0x04.1) [
                                   | inl h ↦ binary_arm kind end bytes x fits h.0 h.1
-                                  | inr n5 ↦
-                                      elim (chosen (eqb kind 0x07) _ _ (Ok x) n5.1) [
+                                  | inr not_0x05 ↦
+                                      elim (chosen (eqb kind 0x07) _ _ (Ok x) not_0x05.1) [
                                         | inl h ↦ fixed_arm 0x07 12 (λ t. p.ObjectId t) (λ t f len. (tree.spelled-ObjectId t, rw (tree.out-ObjectId t) len)) kind end bytes x fits h.0 h.1
-                                        | inr n7 ↦
-                                            elim (chosen (eqb kind 0x08) _ _ (Ok x) n7.1) [
+                                        | inr not_0x07 ↦
+                                            elim (chosen (eqb kind 0x08) _ _ (Ok x) not_0x07.1) [
                                               | inl h ↦ bool_arm kind end bytes x fits h.0 h.1
-                                              | inr n8 ↦
-                                                  elim (chosen (eqb kind 0x09) _ _ (Ok x) n8.1) [
-                                                    | inl h ↦ fixed_arm 0x09 8 (λ t. p.Date (cast_signed w64 (from_le_bytes w64 t))) (λ t f len. (tree.spelled-Date (cast_signed w64 (from_le_bytes w64 t)) ∙ ap (λ (b : List ℕ). record { kind = 0x09; bytes = b }) (signed_8 t f len), rw (tree.out-Date (cast_signed w64 (from_le_bytes w64 t))) (sfits_to_z {w = w64} {n = from_le_bytes w64 t} (Fits-of_lt {w = w64} {n = from_le_bytes w64 t} (below_8 t f))))) kind end bytes x fits h.0 h.1
-                                                    | inr n9 ↦
-                                                        elim (chosen (eqb kind 0x0a) _ _ (Ok x) n9.1) [
-                                                          | inl h ↦ read_as 0x0a kind bytes [] bytes p.Null x h.0 tree.spelled-Null (rw tree.out-Null tt) refl fits (ok_is _ _ h.1)
-                                                          | inr n10 ↦
-                                                              elim (chosen (eqb kind 0x10) _ _ (Ok x) n10.1) [
-                                                                | inl h ↦ fixed_arm 0x10 4 (λ t. p.Int32 (cast_signed w32 (from_le_bytes w32 t))) (λ t f len. (tree.spelled-Int32 (cast_signed w32 (from_le_bytes w32 t)) ∙ ap (λ (b : List ℕ). record { kind = 0x10; bytes = b }) (signed_4 t f len), rw (tree.out-Int32 (cast_signed w32 (from_le_bytes w32 t))) (sfits_to_z {w = w32} {n = from_le_bytes w32 t} (Fits-of_lt {w = w32} {n = from_le_bytes w32 t} (below_4 t f))))) kind end bytes x fits h.0 h.1
-                                                                | inr n16 ↦
-                                                                    elim (chosen (eqb kind 0x11) _ _ (Ok x) n16.1) [
-                                                                      | inl h ↦ fixed_arm 0x11 8 (λ t. p.Timestamp (from_le_bytes w64 t)) (λ t f len. (tree.spelled-Timestamp (from_le_bytes w64 t) ∙ ap (λ (b : List ℕ). record { kind = 0x11; bytes = b }) (le_back_8 t f len), rw (tree.out-Timestamp (from_le_bytes w64 t)) (below_8 t f))) kind end bytes x fits h.0 h.1
-                                                                      | inr n17 ↦
-                                                                          elim (chosen (eqb kind 0x12) _ _ (Ok x) n17.1) [
-                                                                            | inl h ↦ fixed_arm 0x12 8 (λ t. p.Int64 (cast_signed w64 (from_le_bytes w64 t))) (λ t f len. (tree.spelled-Int64 (cast_signed w64 (from_le_bytes w64 t)) ∙ ap (λ (b : List ℕ). record { kind = 0x12; bytes = b }) (signed_8 t f len), rw (tree.out-Int64 (cast_signed w64 (from_le_bytes w64 t))) (sfits_to_z {w = w64} {n = from_le_bytes w64 t} (Fits-of_lt {w = w64} {n = from_le_bytes w64 t} (below_8 t f))))) kind end bytes x fits h.0 h.1
-                                                                            | inr n18 ↦
-                                                                                elim (chosen (eqb kind 0x13) _ _ (Ok x) n18.1) [
-                                                                                  | inl h ↦ fixed_arm 0x13 16 (λ t. p.Decimal t) (λ t f len. (tree.spelled-Decimal t, rw (tree.out-Decimal t) len)) kind end bytes x fits h.0 h.1
-                                                                                  | inr n19 ↦
-                                                                                      absurd (let none = n19.1 in cc)
-                                                                                ]
-                                                                          ]
-                                                                    ]
-                                                              ]
+                                              | inr not_0x08 ↦
+                                                  elim (chosen (eqb kind 0x0a) _ _ (Ok x) not_0x08.1) [
+                                                    | inl h ↦ read_as 0x0a kind bytes [] bytes p.Null x h.0 tree.spelled-Null (rw tree.out-Null tt) refl fits (ok_is _ _ h.1)
+                                                    | inr not_0x0a ↦
+                                                        elim (chosen (eqb kind 0x13) _ _ (Ok x) not_0x0a.1) [
+                                                          | inl h ↦ fixed_arm 0x13 16 (λ t. p.Decimal t) (λ t f len. (tree.spelled-Decimal t, rw (tree.out-Decimal t) len)) kind end bytes x fits h.0 h.1
+                                                          | inr not_0x13 ↦
+                                                              number_takes kind end bytes x fits not_0x13.1
                                                         ]
                                                   ]
                                             ]

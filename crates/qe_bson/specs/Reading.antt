@@ -88,6 +88,15 @@ frame_at end bytes = do
   n ← count_at 5 0 end bytes
   Ok (take (n.0 - 4) n.1, drop (n.0 - 4) n.1)
 
+-- a number by its type
+abbrev pub number_at : ℕ → Reader Plain
+number_at kind end bytes =
+    if kind == 0x09 then (fixed_at 8 end bytes >>= λ x. Ok (p.Date (cast_signed w64 (from_le_bytes w64 x.0)), x.1))
+    else if kind == 0x10 then (fixed_at 4 end bytes >>= λ x. Ok (p.Int32 (cast_signed w32 (from_le_bytes w32 x.0)), x.1))
+    else if kind == 0x11 then (fixed_at 8 end bytes >>= λ x. Ok (p.Timestamp (from_le_bytes w64 x.0), x.1))
+    else if kind == 0x12 then (fixed_at 8 end bytes >>= λ x. Ok (p.Int64 (cast_signed w64 (from_le_bytes w64 x.0)), x.1))
+    else Err (At (end - length bytes) TypeUnknown)
+
 -- a value of the table's types, by readers for what a document and an array hold
 abbrev pub value_with : (ℕ → List ℕ → Result (List (List ℕ × Plain)) BsonFault) → (ℕ → List ℕ → Result (List Plain) BsonFault) → ℕ → Reader Plain
 value_with fields items kind end bytes =
@@ -98,13 +107,9 @@ value_with fields items kind end bytes =
     else if kind == 0x05 then (binary_at end bytes >>= λ x. Ok (p.Binary x.0.0 x.0.1, x.1))
     else if kind == 0x07 then (fixed_at 12 end bytes >>= λ x. Ok (p.ObjectId x.0, x.1))
     else if kind == 0x08 then (bool_at end bytes >>= λ x. Ok (p.Bool x.0, x.1))
-    else if kind == 0x09 then (fixed_at 8 end bytes >>= λ x. Ok (p.Date (cast_signed w64 (from_le_bytes w64 x.0)), x.1))
     else if kind == 0x0a then Ok (p.Null, bytes)
-    else if kind == 0x10 then (fixed_at 4 end bytes >>= λ x. Ok (p.Int32 (cast_signed w32 (from_le_bytes w32 x.0)), x.1))
-    else if kind == 0x11 then (fixed_at 8 end bytes >>= λ x. Ok (p.Timestamp (from_le_bytes w64 x.0), x.1))
-    else if kind == 0x12 then (fixed_at 8 end bytes >>= λ x. Ok (p.Int64 (cast_signed w64 (from_le_bytes w64 x.0)), x.1))
     else if kind == 0x13 then (fixed_at 16 end bytes >>= λ x. Ok (p.Decimal x.0, x.1))
-    else Err (At (end - length bytes) TypeUnknown)
+    else number_at kind end bytes
 
 -- what an element gives, where one begins
 abbrev pub element_with : {A : Type 0} → (ℕ → List ℕ → Result (A × List ℕ) BsonFault) → Option (ℕ × List ℕ) → Result (Option (A × List ℕ)) BsonFault

@@ -59,21 +59,6 @@ pub enum PushFault {
     NoMemory,
 }
 
-/// Why a JSON value stands for no value, or a value isn't printed.
-#[derive(Clone, Copy, Debug, PartialEq, Eq)]
-pub enum JsonFault {
-    /// A number that isn't whole, or doesn't fit 64 bits with its sign.
-    BadNumber,
-    /// An object with the one name of a form that isn't of that form.
-    BadForm,
-    /// More than 100 levels of objects and arrays.
-    TooDeep,
-    /// A double, a decimal or a timestamp.
-    Unprintable,
-    /// There was no memory.
-    NoMemory,
-}
-
 impl From<AllocError> for BsonFault {
     ghost use Rattle.std.specs.Prelude.{◌≡◌};
     ghost use Rattle.qe_bson.specs.declared.fault.BsonFault.TheVariants.{NoMemory};

@@ -159,5 +159,4 @@ impl Reader {
 /// doesn't matter how a stream is cut: each document is the one that `decode` gives of the whole that is left.
 pub fn more_bytes_leave_what_is_decided()
     ensures { (front more : List ℕ) → ¬ IsShort front → document_at (front ++ more) ≡ document_at front }
-{
-}
+{}

@@ -4,7 +4,7 @@ ghost use Rattle.std.specs.Prelude.{◌≡◌, ◌≢◌, ℕ, ◌-◌, ◌≤�
 ghost use Rattle.qe_bson.specs.Names.{is_named};
 ghost use Rattle.qe_bson.specs.Seen.{Knows};
 ghost use Rattle.qe_bson.specs.Answers.{Gives};
-ghost use Rattle.qe_bson.specs.Reading.{value_with, value_at, field_at, item_at, all_at, fields_in, items_in, length_at, document_at, alone_at};
+ghost use Rattle.qe_bson.specs.Reading.{number_at, value_at, field_at, item_at, all_at, fields_in, items_in, length_at, document_at, alone_at};
 ghost use Rattle.qe_bson.specs.Spelling.{Begins, IsAlone};
 ghost use Rattle.qe_bson.specs.Views.{plain, field_view, taken_value, taken_field};
 ghost use Rattle.qe_bson.specs.declared.value.Plain.{Plain};
@@ -23,6 +23,31 @@ pub(crate) const DEPTH: u32 = 100;
 
 /// The greatest number of bytes of a document.
 pub(crate) const LIMIT: usize = 16_777_216;
+
+// A number, by its type.
+fn number(kind: u8, until: usize, bytes: &[u8]) -> Result<(Value, &[u8]), BsonFault>
+    ensures { Gives taken_value result (number_at kind until bytes.now) }
+{
+    match kind {
+        0x09 => {
+            let (date, rest) = fixed::<8>(until, bytes)?;
+            Ok((Value::Date(i64::from_le_bytes(date)), rest))
+        }
+        0x10 => {
+            let (n, rest) = fixed::<4>(until, bytes)?;
+            Ok((Value::Int32(i32::from_le_bytes(n)), rest))
+        }
+        0x11 => {
+            let (n, rest) = fixed::<8>(until, bytes)?;
+            Ok((Value::Timestamp(u64::from_le_bytes(n)), rest))
+        }
+        0x12 => {
+            let (n, rest) = fixed::<8>(until, bytes)?;
+            Ok((Value::Int64(i64::from_le_bytes(n)), rest))
+        }
+        _ => Err(at(until, bytes, BsonKind::TypeUnknown)),
+    }
+}
 
 // A value that holds no document.
 fn scalar(
@@ -57,28 +82,12 @@ fn scalar(
             let (b, rest) = boolean(until, bytes)?;
             Ok((Value::Bool(b), rest))
         }
-        0x09 => {
-            let (date, rest) = fixed::<8>(until, bytes)?;
-            Ok((Value::Date(i64::from_le_bytes(date)), rest))
-        }
         0x0a => Ok((Value::Null, bytes)),
-        0x10 => {
-            let (n, rest) = fixed::<4>(until, bytes)?;
-            Ok((Value::Int32(i32::from_le_bytes(n)), rest))
-        }
-        0x11 => {
-            let (n, rest) = fixed::<8>(until, bytes)?;
-            Ok((Value::Timestamp(u64::from_le_bytes(n)), rest))
-        }
-        0x12 => {
-            let (n, rest) = fixed::<8>(until, bytes)?;
-            Ok((Value::Int64(i64::from_le_bytes(n)), rest))
-        }
         0x13 => {
             let (decimal, rest) = fixed::<16>(until, bytes)?;
             Ok((Value::Decimal(decimal), rest))
         }
-        _ => Err(at(until, bytes, BsonKind::TypeUnknown)),
+        _ => number(kind, until, bytes),
     }
 }
 

@@ -91,6 +91,7 @@ fn a_document_fed_byte_by_byte(rt: HostRuntime) -> Result<(), Fail> {
 #[test]
 fn a_document_of_four_fields(rt: HostRuntime) -> Result<(), Fail> {
     let mut items = Values::new(rt.alloc());
+    assert!(rt; items.is_empty());
     items.push(Value::Int32(7))?;
     let mut document = Document::new(rt.alloc());
     document.push(Text::of(rt.alloc(), "a")?, Value::Array(items))?;
