@@ -1,8 +1,8 @@
 -- All elements of a document, one after the other: what is read is spelled so, and what is spelled so is read.
-use Rattle.std.proofs.Common.{◌≡◌, ℕ, zero, suc, ◌+◌, ◌<◌, ◌≤◌, List, [], ◌∷◌, ◌++◌, length, Option, None, Some, Result, Ok, Err, refl, sym, ap, subst, ◌∙◌, append_assoc, arith}
+use Rattle.std.proofs.Common.{◌≡◌, ℕ, zero, suc, ◌<◌, List, [], ◌∷◌, ◌++◌, length, Option, None, Some, Result, Ok, refl, sym, ap, ◌∙◌, append_assoc, arith}
 use Rattle.std.proofs.lemmas.List.{append-nil, length-append}
 use Rattle.qe_bson.specs.declared.fault.BsonFault.{BsonFault}
-use Rattle.qe_bson.specs.Reading.{◌>>=◌, on_with, all_at}
+use Rattle.qe_bson.specs.Reading.{on_with, all_at}
 use Rattle.qe_bson.proofs.ReaderTools.{IsBytes, bind_ok, ok_is}
 
 -- the elements' bytes, where each element is spelled by those before it

@@ -1,5 +1,5 @@
 -- A document of one field with the empty name.
-use Rattle.std.proofs.Common.{◌≡◌, ℕ, ◌+◌, ◌<◌, ◌≤◌, List, [], ◌∷◌, ◌++◌, length, take, Bool, not, eqb, ◌^◌, Result, Ok, Err, refl, subst, sym, ap, ◌∙◌, arith}
+use Rattle.std.proofs.Common.{◌≡◌, ℕ, ◌+◌, ◌<◌, List, [], ◌∷◌, ◌++◌, length, take, not, eqb, ◌^◌, Result, Ok, Err, refl, subst, sym, ap, ◌∙◌, arith}
 use Rattle.std.proofs.lemmas.Bool.{eqb-true, not-false}
 use Rattle.std.proofs.lemmas.List.{take_at, length-append}
 use Rattle.std.proofs.lemmas.Str.{IsUtf8-from_ascii, is_utf8-from_IsUtf8}
@@ -14,7 +14,7 @@ use Rattle.std.specs.Prelude.{IfOk}
 use Rattle.qe_bson.specs.declared.fault.BsonFault.{BsonFault}
 use Rattle.qe_bson.specs.declared.fault.BsonKind.TheVariants.{LengthWrong}
 use Rattle.qe_bson.specs.Answers.{Gives}
-use Rattle.qe_bson.specs.Reading.{◌>>=◌, unless, fields_in, items_in, value_at, alone_at}
+use Rattle.qe_bson.specs.Reading.{unless, fields_in, items_in, value_at, alone_at}
 use Rattle.qe_bson.proofs.LevelLemmas.{level_takes, level_again}
 use Rattle.qe_bson.proofs.ReaderTools.{IsBytes, IsBytes-push, bind_ok, unless_ok, ok_is}
 use Rattle.qe_bson.proofs.ValueAgain.{value_again}

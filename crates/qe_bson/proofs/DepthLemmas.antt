@@ -1,8 +1,7 @@
 -- How deep a value is, level by level, and where a name holds the byte 0.
-use Rattle.std.proofs.Common.{◌≡◌, ℕ, zero, suc, ◌+◌, ◌-◌, ◌<◌, ◌≤◌, ◌||◌, max, Bool, true, false, leb, List, [], ◌∷◌, length, get_or, map, drop, drop-cons, add-one, refl, sym, ap, ◌∙◌, arith, rules}
+use Rattle.std.proofs.Common.{◌≡◌, ℕ, zero, suc, ◌+◌, ◌<◌, ◌≤◌, ◌||◌, Bool, false, List, ◌∷◌, length, get_or, map, drop, drop-cons, add-one, refl, arith, rules}
 use Rattle.std.specs.List.{AllByRecursion}
 use Rattle.std.proofs.lemmas.Simd.{map-map}
-use Rattle.std.proofs.lemmas.Bool.{le-leb, lt-leb, leb-true, leb-false, cases_Bool}
 use Rattle.qe_bson.specs.declared.value.Plain.{Plain, out-Plain, the_lemmas}
 use Rattle.qe_bson.specs.declared.value.Plain.TheVariants as p
 use Rattle.qe_bson.specs.declared.value.Value.{Value}
@@ -12,7 +11,7 @@ use Rattle.qe_bson.specs.Spelling.{Fits_with, FieldsFit, ItemsFit}
 use Rattle.qe_bson.proofs.OneLevelLemmas.{FieldFits, ItemFits}
 use Rattle.qe_bson.proofs.PlainLemmas as tree
 use Rattle.qe_bson.specs.Views.{plain, field_view}
-use Rattle.qe_bson.specs.Writing.{greatest, any_true, LeafFits, depth, fields_depth, items_depth, holds_zero, zero_in, zero_in_fields, zero_in_items}
+use Rattle.qe_bson.specs.Writing.{greatest, LeafFits, depth, fields_depth, items_depth, holds_zero, zero_in, zero_in_fields, zero_in_items}
 
 pub depth-Doc : (fs : List (List ℕ × Plain)) → depth (p.Doc fs) ≡ fields_depth fs
 unfolding depth

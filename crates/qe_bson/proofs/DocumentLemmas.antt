@@ -1,16 +1,16 @@
 -- A whole document: what is read is spelled so, and what is spelled so is read.
-use Rattle.std.proofs.Common.{◌≡◌, ℕ, ◌+◌, ◌-◌, ◌^◌, ◌<◌, ◌≤◌, Bool, true, false, ◌||◌, leb, ltb, List, [], ◌∷◌, ◌++◌, length, map, take, drop, Result, Ok, Err, refl, sym, ap, subst, ◌∙◌, append_assoc, arith, inl, inr}
+use Rattle.std.proofs.Common.{◌≡◌, ℕ, ◌+◌, ◌-◌, ◌^◌, ◌≤◌, false, ◌||◌, leb, ltb, List, [], ◌∷◌, ◌++◌, length, map, take, drop, Result, Ok, Err, refl, sym, ap, subst, ◌∙◌, append_assoc, arith, inl, inr}
 use Rattle.std.specs.Prelude.{IfOk}
 use Rattle.std.specs.Int.{w32, to_le_bytes, from_le_bytes}
 use Rattle.qe_bson.specs.Answers.{Gives}
 use Rattle.std.proofs.Math.Seq.{take-add}
-use Rattle.std.proofs.lemmas.Bool.{ltb-false, leb-false, le-ltb, lt-leb, or_parts, or_from}
+use Rattle.std.proofs.lemmas.Bool.{ltb-false, le-ltb, lt-leb, or_parts, or_from}
 use Rattle.std.proofs.lemmas.List.{append-nil, take_at, drop_at, take-append-drop, length-append, length-take, length-drop}
 use Rattle.std.proofs.lemmas.Nat.{le_bytes_4, from_le_bytes-to_le_bytes_4}
 use Rattle.qe_bson.specs.declared.fault.BsonFault.{BsonFault}
 use Rattle.qe_bson.specs.declared.value.Plain.{Plain}
 use Rattle.qe_bson.specs.Reading.{◌>>=◌, fields_in, length_at, document_at}
-use Rattle.qe_bson.specs.Spelling.{spelled_field, fields_bytes, document_bytes, FieldsFit, IsDocument, Begins}
+use Rattle.qe_bson.specs.Spelling.{spelled_field, fields_bytes, document_bytes, IsDocument, Begins}
 use Rattle.qe_bson.proofs.LevelLemmas.{level_takes, level_again}
 use Rattle.qe_bson.proofs.ReaderTools.{IsBytes, IsBytes-take, IsBytes-drop, bind_ok, ok_is, chosen}
 

@@ -1,21 +1,15 @@
 -- One element of a document or an array: read as it is spelled, and spelled as it is read.
-use Rattle.std.proofs.Common.{◌≡◌, ℕ, zero, suc, ◌+◌, ◌-◌, ◌^◌, ◌<◌, ◌==◌, Bool, true, false, not, cond, eqb, bytes_eq, decimal, List, [], ◌∷◌, ◌++◌, length, drop, Option, Some, None, Result, Ok, Err, refl, sym, ap, subst, ◌∙◌, append_assoc, arith}
-use Rattle.std.specs.List.{list_any}
-use Rattle.std.specs.Str.{is_utf8}
-use Rattle.std.proofs.lemmas.Bool.{eqb-true, not-false, not-true, not_from_true}
-use Rattle.std.proofs.lemmas.List.{drop_at, length-append}
+use Rattle.std.proofs.Common.{◌≡◌, ℕ, ◌^◌, ◌<◌, true, false, not, bytes_eq, decimal, List, [], ◌∷◌, ◌++◌, length, Option, Some, None, Result, Ok, refl, sym, ap, subst, ◌∙◌, append_assoc, arith}
+use Rattle.std.proofs.lemmas.Bool.{not-false}
+use Rattle.std.proofs.lemmas.List.{length-append}
 use Rattle.std.proofs.lemmas.Slice.Eq.{bytes_eq-Decides}
 use Rattle.qe_bson.specs.declared.fault.BsonFault.{BsonFault}
-use Rattle.qe_bson.specs.declared.fault.BsonFault.TheVariants.{At}
-use Rattle.qe_bson.specs.declared.fault.BsonKind.TheVariants.{NoTerminator, LengthWrong, TypeUnknown, NotUtf8, DuplicateName, ArrayKey}
-use Rattle.qe_bson.specs.declared.value.Plain.{Plain, roll-Plain, out-Plain}
-use Rattle.qe_bson.specs.declared.value.Plain.TheOpen.{Plain-F}
-use Rattle.qe_bson.specs.declared.value.Plain.TheVariants as p
+use Rattle.qe_bson.specs.declared.fault.BsonKind.TheVariants.{DuplicateName, ArrayKey}
+use Rattle.qe_bson.specs.declared.value.Plain.{Plain, out-Plain}
 use Rattle.qe_bson.specs.Names.{is_named}
-use Rattle.qe_bson.specs.Reading.{◌>>=◌, unless, is_type, begins_at, split_zero, named_by, name_at, element_with, field_at, item_at}
+use Rattle.qe_bson.specs.Reading.{begins_at, name_at, element_with, field_at, item_at}
 use Rattle.qe_bson.specs.Spelling.{Spelled, element, spelled, Fits_with, IsName}
-use Rattle.qe_bson.proofs.PlainLemmas as tree
-use Rattle.qe_bson.proofs.ReaderTools.{IsBytes, IsBytes-drop, IsBytes-rest, bind_ok, unless_ok, ok_is}
+use Rattle.qe_bson.proofs.ReaderTools.{IsBytes, IsBytes-rest, bind_ok, unless_ok, ok_is}
 use Rattle.qe_bson.proofs.ValueTakes.{ValueRead}
 use Rattle.qe_bson.proofs.StationLemmas.{begins_none, begins_some, begins_again, kind_is_type, name_takes, name_again}
 

@@ -1,19 +1,13 @@
 -- Documents and arrays of every level: read as they are spelled, and spelled as they are read.
-use Rattle.std.proofs.Common.{◌≡◌, ℕ, zero, suc, ◌+◌, ◌-◌, ◌*◌, ◌/◌, ◌%◌, ◌^◌, ◌<◌, ◌≤◌, ◌==◌, Bool, false, ◌||◌, decimal, List, [], ◌∷◌, ◌++◌, length, map, Result, Ok, Err, refl, sym, ap, subst, ◌∙◌, append_assoc, arith}
-use Rattle.std.specs.List.{list_any, AllByRecursion}
-use Rattle.std.proofs.lemmas.Bool.{ne_eqb, or_from}
-use Rattle.std.proofs.lemmas.Fmt.{decimal_by_steps, IsAscii-decimal}
+use Rattle.std.proofs.Common.{◌≡◌, ℕ, zero, suc, ◌+◌, List, [], ◌∷◌, ◌++◌, length, map, sym, ap, subst, ◌∙◌, arith}
+use Rattle.std.specs.List.{AllByRecursion}
 use Rattle.std.proofs.lemmas.List.{length-append}
-use Rattle.std.proofs.lemmas.List.Folds.{list_any-append}
-use Rattle.std.proofs.lemmas.Str.{IsUtf8-from_ascii, is_utf8-from_IsUtf8}
-use Rattle.qe_bson.specs.declared.fault.BsonFault.{BsonFault}
-use Rattle.qe_bson.specs.declared.value.Plain.{Plain, out-Plain}
-use Rattle.qe_bson.specs.Names.{is_named, Distinct}
-use Rattle.qe_bson.specs.Reading.{value_with, value_at, field_at, item_at, all_at, fields_in, items_in}
-use Rattle.qe_bson.specs.Spelling.{Spelled, element, spelled, spelled_field, fields_bytes, items_bytes, IsName, Fits_with, FieldsFit, ItemsFit}
-use Rattle.qe_bson.proofs.AllLemmas.{spelled_from, AllFrom, OneTakes, OneReads, all_takes, all_again}
-use Rattle.qe_bson.proofs.ElementLemmas.{Fits, ValueTakes, ValueReads, field_none, field_takes, field_again, item_none, item_takes, item_again}
-use Rattle.qe_bson.proofs.NameLemmas.{Distinct-push, Distinct-middle}
+use Rattle.qe_bson.specs.declared.value.Plain.{Plain}
+use Rattle.qe_bson.specs.Names.{Distinct}
+use Rattle.qe_bson.specs.Reading.{value_at, field_at, item_at, all_at, fields_in, items_in}
+use Rattle.qe_bson.specs.Spelling.{spelled, spelled_field, fields_bytes, items_bytes, FieldsFit, ItemsFit}
+use Rattle.qe_bson.proofs.AllLemmas.{spelled_from, all_takes, all_again}
+use Rattle.qe_bson.proofs.ElementLemmas.{ValueTakes, ValueReads}
 use Rattle.qe_bson.proofs.OneLevelLemmas.{field_bytes, item_bytes, fields_spelled, items_spelled, FieldFits, ItemFits, FieldRead, ItemRead, FieldStands, ItemStands, read_fit, read_apart, items_fit, fields_stand, items_stand, field_one_takes, item_one_takes, field_one_reads, item_one_reads}
 use Rattle.qe_bson.proofs.ValueAgain.{InnerReads, value_again}
 use Rattle.qe_bson.proofs.ValueTakes.{InnerTakes, value_takes}

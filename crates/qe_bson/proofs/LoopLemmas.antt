@@ -4,7 +4,7 @@ use Rattle.qe_bson.specs.declared.fault.BsonFault.{BsonFault}
 use Rattle.qe_bson.specs.declared.fault.BsonFault.TheVariants.{At, NoMemory}
 use Rattle.qe_bson.specs.declared.fault.BsonKind.TheVariants.{NoTerminator}
 use Rattle.qe_bson.specs.Answers.{Fails}
-use Rattle.qe_bson.specs.Reading.{◌>>=◌, all_at}
+use Rattle.qe_bson.specs.Reading.{all_at}
 
 module _ {A : Type 0} (one : List A → ℕ → List ℕ → Result (Option (A × List ℕ)) BsonFault) (end n i : ℕ) (before : List A) (rest : List ℕ) (total : Result (List A) BsonFault)
     (so_far : all_at one (n - i) before end rest ≡ total) where

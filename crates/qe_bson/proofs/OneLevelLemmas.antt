@@ -1,5 +1,5 @@
 -- One level: what is asked of each field and item, and one element read and spelled.
-use Rattle.std.proofs.Common.{◌≡◌, ℕ, zero, suc, ◌+◌, ◌-◌, ◌*◌, ◌/◌, ◌%◌, ◌^◌, ◌<◌, ◌≤◌, ◌==◌, Bool, false, ◌||◌, decimal, List, [], ◌∷◌, ◌++◌, length, map, Result, Ok, Err, refl, sym, ap, subst, ◌∙◌, append_assoc, arith}
+use Rattle.std.proofs.Common.{◌≡◌, ℕ, suc, ◌+◌, ◌%◌, ◌^◌, ◌<◌, ◌≤◌, ◌==◌, false, decimal, List, [], ◌∷◌, ◌++◌, length, map, Result, refl, sym, ap, subst, ◌∙◌, append_assoc, arith}
 use Rattle.std.specs.List.{list_any, AllByRecursion}
 use Rattle.std.proofs.lemmas.Bool.{ne_eqb, or_from}
 use Rattle.std.proofs.lemmas.Fmt.{decimal_by_steps, IsAscii-decimal}
@@ -9,14 +9,11 @@ use Rattle.std.proofs.lemmas.Str.{IsUtf8-from_ascii, is_utf8-from_IsUtf8}
 use Rattle.qe_bson.specs.declared.fault.BsonFault.{BsonFault}
 use Rattle.qe_bson.specs.declared.value.Plain.{Plain, out-Plain}
 use Rattle.qe_bson.specs.Names.{is_named, Distinct}
-use Rattle.qe_bson.specs.Reading.{value_with, value_at, field_at, item_at, all_at, fields_in, items_in}
-use Rattle.qe_bson.specs.Spelling.{Spelled, element, spelled, spelled_field, fields_bytes, items_bytes, IsName, Fits_with, FieldsFit, ItemsFit}
-use Rattle.qe_bson.proofs.AllLemmas.{spelled_from, AllFrom, OneTakes, OneReads, all_takes, all_again}
-use Rattle.qe_bson.proofs.ElementLemmas.{Fits, ValueTakes, ValueReads, field_none, field_takes, field_again, item_none, item_takes, item_again}
+use Rattle.qe_bson.specs.Reading.{field_at, item_at}
+use Rattle.qe_bson.specs.Spelling.{Spelled, element, spelled, spelled_field, fields_bytes, items_bytes, IsName, Fits_with}
+use Rattle.qe_bson.proofs.AllLemmas.{spelled_from, AllFrom, OneTakes, OneReads}
+use Rattle.qe_bson.proofs.ElementLemmas.{ValueTakes, ValueReads, field_none, field_takes, field_again, item_none, item_takes, item_again}
 use Rattle.qe_bson.proofs.NameLemmas.{Distinct-push, Distinct-middle}
-use Rattle.qe_bson.proofs.ReaderTools.{IsBytes}
-use Rattle.qe_bson.proofs.ValueAgain.{InnerReads, value_again}
-use Rattle.qe_bson.proofs.ValueTakes.{InnerTakes, value_takes}
 
 -- ---- keys of arrays
 

@@ -1,11 +1,11 @@
 -- A piece that is spelled is read again, whatever follows it before the document's last byte.
-use Rattle.std.proofs.Common.{◌≡◌, ℕ, zero, suc, ◌+◌, ◌-◌, ◌^◌, ◌<◌, ◌≤◌, Bool, true, false, not, ◌||◌, cond, eqb, leb, ltb, List, [], ◌∷◌, ◌++◌, length, get_or, take, drop, Option, Some, None, Result, Ok, Err, refl, sym, ap, ◌∙◌, append_assoc, arith}
+use Rattle.std.proofs.Common.{◌≡◌, ℕ, zero, suc, ◌+◌, ◌-◌, ◌^◌, ◌<◌, ◌≤◌, Bool, true, false, leb, List, [], ◌∷◌, ◌++◌, length, get_or, take, drop, Ok, refl, sym, ap, ◌∙◌, append_assoc, arith}
 use Rattle.std.specs.Int.{w32, to_le_bytes, from_le_bytes}
 use Rattle.std.specs.Str.{is_utf8}
 use Rattle.std.proofs.lemmas.Bool.{lt-leb, le-ltb, or_from}
 use Rattle.std.proofs.lemmas.List.{take_at, drop_at, length-append}
 use Rattle.std.proofs.lemmas.Nat.{from_le_bytes-to_le_bytes_4}
-use Rattle.qe_bson.specs.Reading.{◌>>=◌, unless, is_wrong, count_at, string_at, binary_at, bool_at, frame_at}
+use Rattle.qe_bson.specs.Reading.{is_wrong, count_at, string_at, binary_at, bool_at, frame_at}
 use Rattle.qe_bson.specs.Spelling.{string, binary, flag}
 use Rattle.qe_bson.proofs.ReaderTools.{fixed_again}
 

@@ -1,17 +1,15 @@
 -- A piece that is read is spelled so.
-use Rattle.std.proofs.Common.{◌≡◌, ℕ, zero, suc, ◌+◌, ◌-◌, ◌^◌, ◌<◌, ◌≤◌, Bool, true, false, not, ◌||◌, cond, eqb, leb, ltb, List, [], ◌∷◌, ◌++◌, length, get_or, take, drop, drop-cons, Option, Some, None, Result, Ok, Err, refl, sym, ap, subst, ◌∙◌, append_assoc, arith}
+use Rattle.std.proofs.Common.{◌≡◌, ℕ, zero, suc, ◌+◌, ◌-◌, ◌^◌, ◌<◌, ◌≤◌, Bool, true, not, ◌||◌, eqb, leb, ltb, List, [], ◌∷◌, ◌++◌, length, get_or, take, drop, drop-cons, Result, Ok, refl, sym, ap, subst, ◌∙◌, append_assoc, arith}
 use Rattle.std.specs.Int.{w32, to_le_bytes, from_le_bytes}
-use Rattle.std.specs.List.{list_any}
 use Rattle.std.specs.Str.{is_utf8}
 use Rattle.std.proofs.lemmas.Bool.{leb-false, leb-true, ltb-false, eqb-true, not-false, or_parts}
-use Rattle.std.proofs.lemmas.List.{take-append-drop, length-append, length-take, length-drop}
+use Rattle.std.proofs.lemmas.List.{take-append-drop, length-take, length-drop}
 use Rattle.std.proofs.lemmas.Nat.{le_bytes_4}
 use Rattle.qe_bson.specs.declared.fault.BsonFault.{BsonFault}
-use Rattle.qe_bson.specs.declared.fault.BsonFault.TheVariants.{At}
 use Rattle.qe_bson.specs.declared.fault.BsonKind.TheVariants.{LengthWrong, NoTerminator, NotUtf8, BadBool}
-use Rattle.qe_bson.specs.Reading.{◌>>=◌, unless, split_zero, is_wrong, fixed_at, count_at, string_at, binary_at, bool_at, frame_at, name_at}
-use Rattle.qe_bson.specs.Spelling.{string, binary, flag, IsName}
-use Rattle.qe_bson.proofs.ReaderTools.{IsBytes, IsBytes-drop, IsBytes-take, IsBytes-rest, bind_ok, unless_ok, ok_is, Takes, Takes-cut, fixed_takes}
+use Rattle.qe_bson.specs.Reading.{unless, is_wrong, fixed_at, count_at, string_at, binary_at, bool_at, frame_at}
+use Rattle.qe_bson.specs.Spelling.{string, binary, flag}
+use Rattle.qe_bson.proofs.ReaderTools.{IsBytes, IsBytes-drop, IsBytes-take, bind_ok, unless_ok, ok_is, Takes-cut, fixed_takes}
 
 -- a length that is read, and what it promises
 pub record Counts (least extra : ℕ) (bytes : List ℕ) (x : ℕ × List ℕ) : Type 0 where

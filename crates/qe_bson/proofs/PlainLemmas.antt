@@ -1,11 +1,11 @@
 -- A tree, level by level: how each value is spelled, and what it opens to.
-use Rattle.std.proofs.Common.{◌≡◌, ℕ, ℤ, Bool, List, [], ◌∷◌, map, refl, rules}
+use Rattle.std.proofs.Common.{◌≡◌, ℕ, ℤ, Bool, List, [], ◌∷◌, map, rules}
 use Rattle.std.specs.Int.{w32, w64, to_le_bytes, cast_unsigned}
 use Rattle.std.proofs.lemmas.Simd.{map-map}
-use Rattle.qe_bson.specs.declared.value.Plain.{Plain, fold-Plain, roll-Plain, out-Plain, the_lemmas}
+use Rattle.qe_bson.specs.declared.value.Plain.{Plain, roll-Plain, out-Plain, the_lemmas}
 use Rattle.qe_bson.specs.declared.value.Plain.TheOpen.{Plain-F}
 use Rattle.qe_bson.specs.declared.value.Plain.TheVariants as p
-use Rattle.qe_bson.specs.Spelling.{Spelled, string, binary, flag, framed, fields_bytes, items_bytes, spelled, spelled_field}
+use Rattle.qe_bson.specs.Spelling.{string, binary, flag, framed, fields_bytes, items_bytes, spelled, spelled_field}
 
 pub spelled-Double : (b : List ℕ) → spelled (p.Double b) ≡ record { kind = 0x01; bytes = b }
 unfolding spelled

@@ -1,21 +1,16 @@
 -- The type byte and the name of an element: read as they are spelled, and spelled as they are read.
-use Rattle.std.proofs.Common.{◌≡◌, ℕ, zero, suc, ◌+◌, ◌-◌, ◌^◌, ◌<◌, ◌==◌, Bool, true, false, not, cond, eqb, bytes_eq, decimal, List, [], ◌∷◌, ◌++◌, length, drop, Option, Some, None, Result, Ok, Err, refl, sym, ap, subst, ◌∙◌, append_assoc, arith}
-use Rattle.std.specs.List.{list_any}
+use Rattle.std.proofs.Common.{◌≡◌, ℕ, ◌<◌, true, false, not, eqb, List, [], ◌∷◌, ◌++◌, length, Option, Some, None, Ok, refl, ap, subst, arith}
 use Rattle.std.specs.Str.{is_utf8}
-use Rattle.std.proofs.lemmas.Bool.{eqb-true, not-false, not-true, not_from_true}
-use Rattle.std.proofs.lemmas.List.{drop_at, length-append}
-use Rattle.std.proofs.lemmas.Slice.Eq.{bytes_eq-Decides}
-use Rattle.qe_bson.specs.declared.fault.BsonFault.{BsonFault}
-use Rattle.qe_bson.specs.declared.fault.BsonFault.TheVariants.{At}
-use Rattle.qe_bson.specs.declared.fault.BsonKind.TheVariants.{NoTerminator, LengthWrong, TypeUnknown, NotUtf8, DuplicateName, ArrayKey}
+use Rattle.std.proofs.lemmas.Bool.{eqb-true, not-false}
+use Rattle.std.proofs.lemmas.List.{drop_at}
+use Rattle.qe_bson.specs.declared.fault.BsonKind.TheVariants.{NoTerminator, LengthWrong, TypeUnknown, NotUtf8}
 use Rattle.qe_bson.specs.declared.value.Plain.{Plain, roll-Plain, out-Plain}
 use Rattle.qe_bson.specs.declared.value.Plain.TheOpen.{Plain-F}
 use Rattle.qe_bson.specs.declared.value.Plain.TheVariants as p
-use Rattle.qe_bson.specs.Names.{is_named}
-use Rattle.qe_bson.specs.Reading.{◌>>=◌, unless, is_type, begins_at, split_zero, named_by, name_at, element_with, field_at, item_at}
-use Rattle.qe_bson.specs.Spelling.{Spelled, element, spelled, Fits_with, IsName}
+use Rattle.qe_bson.specs.Reading.{unless, is_type, begins_at, split_zero, named_by, name_at}
+use Rattle.qe_bson.specs.Spelling.{spelled, IsName}
 use Rattle.qe_bson.proofs.PlainLemmas as tree
-use Rattle.qe_bson.proofs.ReaderTools.{IsBytes, IsBytes-drop, IsBytes-rest, bind_ok, unless_ok, ok_is}
+use Rattle.qe_bson.proofs.ReaderTools.{IsBytes, IsBytes-drop, IsBytes-rest, unless_ok, ok_is}
 use Rattle.qe_bson.proofs.ZeroLemmas.{split_zero_parts, split_zero_again}
 
 IsBytes-behind : (text rest : List ℕ) → IsBytes (text ++ rest) → IsBytes rest

@@ -1,11 +1,9 @@
 -- What more bytes change, and what they don't.
-use Rattle.std.proofs.Common.{◌≡◌, ℕ, ◌+◌, ◌-◌, ◌^◌, ◌<◌, ◌≤◌, ◌||◌, false, leb, ltb, List, [], ◌++◌, length, take, drop, Option, None, Some, Result, Ok, Err, refl, sym, ap, subst, ◌∙◌, arith, inl, inr}
+use Rattle.std.proofs.Common.{◌≡◌, ℕ, ◌-◌, ◌^◌, ◌<◌, ◌≤◌, ◌||◌, false, leb, ltb, List, [], ◌++◌, length, take, drop, Option, None, Some, Ok, refl, sym, subst, ◌∙◌, arith, inl, inr}
 use Rattle.std.specs.Int.{w32, from_le_bytes}
 use Rattle.std.proofs.lemmas.Bool.{cases_lt, cases_Bool, ltb-false, le-ltb}
 use Rattle.std.proofs.lemmas.List.{take-append-le, drop-append-le, length-append, length-drop}
 use Rattle.qe_bson.specs.declared.fault.BsonFault.{BsonFault}
-use Rattle.qe_bson.specs.declared.fault.BsonFault.TheVariants.{At}
-use Rattle.qe_bson.specs.declared.fault.BsonKind.TheVariants.{Short}
 use Rattle.qe_bson.specs.declared.value.Plain.{Plain}
 use Rattle.qe_bson.specs.Reading.{length_at, document_at}
 use Rattle.qe_bson.specs.Spelling.{Begins}

@@ -1,5 +1,5 @@
 -- A value that is spelled is read again, if what documents and arrays hold is.
-use Rattle.std.proofs.Common.{◌≡◌, ℕ, ℤ, suc, ◌+◌, ◌-◌, ◌^◌, ◌<◌, List, [], ◌∷◌, ◌++◌, length, map, Result, Ok, Err, refl, sym, ap, subst, ◌∙◌, arith}
+use Rattle.std.proofs.Common.{◌≡◌, ℕ, ℤ, ◌+◌, ◌-◌, ◌^◌, ◌<◌, List, [], ◌∷◌, ◌++◌, length, map, Result, Ok, refl, sym, ap, subst, ◌∙◌, arith}
 use Rattle.std.specs.Prelude.{FitsSigned}
 use Rattle.std.specs.Int.{w32, w64, to_le_bytes, from_le_bytes, cast_signed, cast_unsigned}
 use Rattle.std.proofs.Math.Facts.{Fits-lt-pow, Fits-of_z}
@@ -10,8 +10,8 @@ use Rattle.qe_bson.specs.declared.fault.BsonFault.{BsonFault}
 use Rattle.qe_bson.specs.declared.value.Plain.{Plain, roll-Plain, out-Plain}
 use Rattle.qe_bson.specs.declared.value.Plain.TheOpen.{Plain-F}
 use Rattle.qe_bson.specs.declared.value.Plain.TheVariants as p
-use Rattle.qe_bson.specs.Reading.{◌>>=◌, fixed_at, string_at, binary_at, bool_at, frame_at, value_with}
-use Rattle.qe_bson.specs.Spelling.{Spelled, string, binary, flag, framed, fields_bytes, items_bytes, spelled, spelled_field, Fits_with}
+use Rattle.qe_bson.specs.Reading.{frame_at, value_with}
+use Rattle.qe_bson.specs.Spelling.{Spelled, framed, fields_bytes, items_bytes, spelled, spelled_field, Fits_with}
 use Rattle.qe_bson.proofs.PieceAgain.{string_again, binary_again, bool_again, frame_again}
 use Rattle.qe_bson.proofs.PlainLemmas as tree
 use Rattle.qe_bson.proofs.ReaderTools.{fixed_again}

@@ -1,15 +1,11 @@
 -- A value that is read is spelled so, if what documents and arrays hold is.
-use Rattle.std.proofs.Common.{◌≡◌, ℕ, suc, ◌+◌, ◌-◌, ◌^◌, ◌<◌, Bool, true, false, eqb, List, [], ◌∷◌, ◌++◌, length, map, Result, Ok, Err, refl, sym, ap, subst, ◌∙◌, arith, inl, inr}
-use Rattle.std.specs.Prelude.{FitsSigned}
-use Rattle.std.specs.Int.{w32, w64, to_le_bytes, from_le_bytes, cast_signed, cast_unsigned}
+use Rattle.std.proofs.Common.{◌≡◌, ℕ, ◌+◌, ◌-◌, true, eqb, List, [], ◌∷◌, ◌++◌, length, map, Result, Ok, refl, sym, ap, subst, ◌∙◌, arith, inl, inr}
+use Rattle.std.specs.Int.{w32, w64, to_le_bytes, from_le_bytes, cast_signed}
 use Rattle.std.proofs.Math.Facts.{Fits-of_lt, sfits_to_z}
 use Rattle.std.proofs.lemmas.Bool.{eqb-true}
-use Rattle.std.proofs.lemmas.Int.{of_z-to_z}
 use Rattle.std.proofs.lemmas.List.{length-append}
-use Rattle.std.proofs.lemmas.Nat.{le_bytes_4, le_bytes_8}
 use Rattle.qe_bson.specs.declared.fault.BsonFault.{BsonFault}
 use Rattle.qe_bson.specs.declared.value.Plain.{Plain, out-Plain}
-use Rattle.qe_bson.specs.declared.value.Plain.TheOpen.{Plain-F}
 use Rattle.qe_bson.specs.declared.value.Plain.TheVariants as p
 use Rattle.qe_bson.specs.Reading.{◌>>=◌, fixed_at, string_at, binary_at, bool_at, frame_at, number_at, value_with}
 use Rattle.qe_bson.specs.Spelling.{Spelled, string, binary, flag, framed, fields_bytes, items_bytes, spelled, spelled_field, Fits_with}

@@ -1,5 +1,5 @@
 -- Writing elements one after the other.
-use Rattle.std.proofs.Common.{◌≡◌, ℕ, suc, ◌+◌, ◌<◌, ◌≤◌, List, [], ◌∷◌, ◌++◌, length, get_or, map, drop, drop-cons, add-one, decimal, Result, Ok, Err, refl, sym, ap, ◌∙◌, append_assoc, arith}
+use Rattle.std.proofs.Common.{◌≡◌, ℕ, ◌+◌, ◌<◌, ◌≤◌, List, [], ◌∷◌, ◌++◌, length, get_or, map, drop, drop-cons, add-one, decimal, Err, refl, sym, ap, ◌∙◌, append_assoc, arith}
 use Rattle.std.proofs.lemmas.List.{append-nil, drop_all, length-append}
 use Rattle.qe_bson.specs.declared.fault.EncodeFault.{EncodeFault}
 use Rattle.qe_bson.specs.declared.fault.EncodeFault.TheVariants.{TooLong, TooDeep, ZeroInName, NoMemory}

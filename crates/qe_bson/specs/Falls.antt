@@ -1,5 +1,5 @@
 -- A value is smaller than the list or the document that holds it.
-use Rattle.std.proofs.Common.{ℕ, ◌≡◌, suc, ◌≤◌, ◌+◌, List, [], ◌∷◌, map, arith, rules, refl, ap, sym, ◌∙◌}
+use Rattle.std.proofs.Common.{ℕ, ◌≡◌, suc, ◌≤◌, List, [], ◌∷◌, map, arith, rules}
 use Rattle.std.proofs.lemmas.Simd.{map-map}
 use denote.Param.Weighed.{most}
 use Rattle.qe_bson.specs.declared.value.Plain.{Plain, the_lemmas, Doc, Array}

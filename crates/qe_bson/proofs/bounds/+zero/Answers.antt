@@ -1,8 +1,8 @@
-use Rattle.std.proofs.Common.{◌≡◌, ◌≤◌, ◌∷◌, false, length, map, drop, sym, ap, ◌∙◌, arith}
+use Rattle.std.proofs.Common.{◌≡◌, false, map, sym, ap, ◌∙◌, arith}
 use Rattle.std.proofs.lemmas.List.{drop_all}
 use Rattle.qe_bson.specs.Spelling.{FieldsFit, ItemsFit}
 use Rattle.qe_bson.specs.Views.{plain, field_view}
-use Rattle.qe_bson.specs.Writing.{holds_zero, zero_in, depth}
+use Rattle.qe_bson.specs.Writing.{holds_zero, zero_in}
 use Rattle.qe_bson.proofs.DepthLemmas.{depth-Doc, depth-Array, zero_in-Doc, zero_in-Array, zero_leaf, leaf_fits, next, fields_fit, items_fit}
 use Rattle.qe_bson.proofs.NameLemmas.{Distinct-view}
 use Rattle.qe_bson.proofs.PlainLemmas as tree

@@ -1,6 +1,5 @@
-use Rattle.std.proofs.Common.{◌≡◌, ℕ, List, Bor, cond, true, ap, sym, ◌∙◌}
+use Rattle.std.proofs.Common.{ℕ, List, Bor, ◌∙◌}
 use Rattle.std.proofs.lemmas.Map.Text.{is_eq-slice_cmp}
-use Rattle.qe_bson.specs.Names.{is_named}
 use Rattle.qe_bson.proofs.NameLemmas.{named_or_last}
 use Rattle.qe_bson.proofs.names.add.Goals as goal
 

@@ -1,4 +1,4 @@
-use Rattle.std.proofs.Common.{◌≡◌, ◌<◌, ℕ, List, length, drop, Option, Some, arith, drop-cons, refl, sym, ◌∙◌}
+use Rattle.std.proofs.Common.{arith, drop-cons, refl, sym, ◌∙◌}
 use Rattle.qe_bson.proofs.ZeroLemmas.{split_some, split_none}
 use Rattle.qe_bson.proofs.pieces.first_zero.Goals as goal
 

@@ -1,4 +1,4 @@
-use Rattle.std.proofs.Common.{◌≡◌, ◌<◌, ◌+◌, ◌-◌, ◌++◌, length, Ok, sym, ap, ◌∙◌, arith}
+use Rattle.std.proofs.Common.{◌≡◌, ◌+◌, ◌-◌, length, arith}
 use Rattle.std.proofs.lemmas.List.{length-append}
 use Rattle.qe_bson.proofs.StreamLemmas.{front_shorter}
 use Rattle.qe_bson.proofs.reader.take_more.Goals as goal

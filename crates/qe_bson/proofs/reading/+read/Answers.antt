@@ -1,8 +1,6 @@
-use Rattle.std.proofs.Common.{◌≡◌, ◌∷◌, ◌++◌, [], false, length, map, arith, sym, ap, ◌∙◌}
+use Rattle.std.proofs.Common.{map, arith, sym, ◌∙◌}
 use Rattle.std.proofs.lemmas.List.{map_push, length-map}
 use Rattle.std.proofs.lemmas.Result.{err_from_is_err_and}
-use Rattle.qe_bson.specs.Names.{is_named}
-use Rattle.qe_bson.specs.Reading.{value_at, field_at, item_at}
 use Rattle.qe_bson.specs.Views.{plain, field_view}
 use Rattle.qe_bson.proofs.LoopLemmas.{goes_on, is_done, fails, runs_out}
 use Rattle.qe_bson.proofs.NameLemmas.{is_named-view, Distinct-push}

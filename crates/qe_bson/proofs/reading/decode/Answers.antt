@@ -1,4 +1,4 @@
-use Rattle.std.proofs.Common.{ℕ, List, subst, arith}
+use Rattle.std.proofs.Common.{subst, arith}
 use Rattle.qe_bson.specs.Answers.{Gives}
 use Rattle.qe_bson.proofs.DocumentLemmas.{is_found, begins_again}
 use Rattle.qe_bson.proofs.reading.decode.Goals as goal

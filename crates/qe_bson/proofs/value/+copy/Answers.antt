@@ -1,4 +1,3 @@
-use Rattle.std.proofs.Common.{◌∙◌, sym, take, length}
 use Rattle.std.proofs.lemmas.List.{take_all}
 use Rattle.qe_bson.proofs.value.+copy.Goals as goal
 

@@ -1,7 +1,7 @@
-use Rattle.std.proofs.Common.{◌≡◌, ◌+◌, ◌∷◌, ◌++◌, [], length, sym, ap, ◌∙◌, arith}
+use Rattle.std.proofs.Common.{◌≡◌, ◌+◌, ◌∷◌, [], length, ap, ◌∙◌}
 use Rattle.std.proofs.lemmas.List.{length-append}
 use Rattle.std.proofs.lemmas.Result.{err_from_is_err_and}
-use Rattle.qe_bson.proofs.WriteLemmas.{fields_go_on, items_go_on, field_refuses, item_refuses, items_done, fields_done, bytes_of_items}
+use Rattle.qe_bson.proofs.WriteLemmas.{fields_go_on, items_go_on, field_refuses, item_refuses}
 use Rattle.qe_bson.proofs.writing.+write.Goals as goal
 
 pub put_array-returns-in_err-put_element : goal.put_array-returns-in_err-put_element
