@@ -1,4 +1,5 @@
-ghost use Rattle.std.specs.Prelude.{◌≡◌, IfOk};
+ghost use Rattle.std.specs.Prelude.{◌≡◌, true, IfOk};
+ghost use Rattle.std.specs.Str.{is_utf8};
 
 use crate::{Duplicate, NoMemory};
 use std::alloc::Global;
@@ -33,7 +34,8 @@ impl Text {
 
     /// The text.
     pub fn as_str(&self) -> &str
-        ensures { result.now ≡ self.now }
+        ensures value { result.now ≡ self.now }
+        ensures utf8 { is_utf8 self.now ≡ true }
     {
         self.text.as_str()
     }

@@ -1,0 +1,9 @@
+pub mod Answers
+pub mod Falls
+pub mod Names
+pub mod Reading
+pub mod Seen
+pub mod Spelling
+pub mod Stream
+pub mod Views
+pub mod Writing
