@@ -1,8 +1,10 @@
 -- The counter mode: its loop, and its laws.
-use Rattle.std.proofs.Common.{◌≡◌, ◌+◌, ◌-◌, ◌*◌, ◌/◌, ◌%◌, ◌<◌, ◌≤◌, ℕ, zero, suc, List, [], ◌++◌, length, take, drop, refl, ap, sym, ◌∙◌, arith, inl, inr, add-one, get_or, length-append, length-drop}
+use Rattle.std.proofs.Common.{◌≡◌, ◌+◌, ◌-◌, ◌*◌, ◌/◌, ◌%◌, ◌<◌, ◌≤◌, ℕ, zero, suc, List, [], ◌++◌, length, take, drop, refl, ap}
+use Rattle.std.proofs.Common.{sym, ◌∙◌, arith, inl, inr, add-one, get_or, length-append, length-drop}
 use Rattle.std.specs.Int.{div_ceil}
 use Rattle.std.proofs.lemmas.Bool.{cases_lt}
-use Rattle.std.proofs.lemmas.List.{append-nil, drop_all, take_all, drop_at, drop-append-le, take-append-le, get_or-take, get_or-drop, same_lists, take_rest}
+use Rattle.std.proofs.lemmas.List.{append-nil, drop_all, take_all, drop_at, drop-append-le, take-append-le, get_or-take}
+use Rattle.std.proofs.lemmas.List.{get_or-drop, same_lists, take_rest}
 use borrow.Rule.Slice.PartMut.{put_mid}
 use Rattle.qe_aes.specs.Field.{xor_bytes}
 use Rattle.qe_aes.specs.Cipher.{cipher, aes_256}

@@ -1,5 +1,6 @@
 -- The S-boxes, by computation; sums of numbers; and the product of the field, which is linear.
-use Rattle.std.proofs.Common.{◌≡◌, ◌<◌, ◌+◌, ◌-◌, ◌*◌, ◌/◌, ◌%◌, ◌^◌, ℕ, zero, suc, true, refl, ap, sym, ◌∙◌, arith, bit_xor, lit<, add-zero}
+use Rattle.std.proofs.Common.{◌≡◌, ◌<◌, ◌+◌, ◌-◌, ◌*◌, ◌/◌, ◌%◌, ◌^◌, ℕ, zero, suc, true, refl, ap, sym, ◌∙◌, arith, bit_xor}
+use Rattle.std.proofs.Common.{lit<, add-zero}
 use Rattle.std.proofs.Math.Nat.{zero-mul, one-mul}
 use Rattle.std.specs.Prelude.{◌==◌, nat_lt}
 use Rattle.std.specs.Int.Bits.{xor_assoc, xor_comm, xor_self, xor_zero_l, xor_zero_r, xor_shr, xor_mod, xor_lt, xor_block}

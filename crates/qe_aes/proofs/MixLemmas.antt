@@ -1,6 +1,7 @@
 -- MIXCOLUMNS and INVMIXCOLUMNS undo each other: both are linear, and one after the other they keep each column
 -- with only one byte.
-use Rattle.std.proofs.Common.{◌≡◌, ◌+◌, ◌-◌, ◌*◌, ◌%◌, ◌<◌, ℕ, List, [], ◌∷◌, ◌++◌, true, map, slice_index, bit_xor, refl, ap, sym, ◌∙◌, lit<}
+use Rattle.std.proofs.Common.{◌≡◌, ◌+◌, ◌-◌, ◌*◌, ◌%◌, ◌<◌, ℕ, List, [], ◌∷◌, ◌++◌, true, map, slice_index, bit_xor, refl, ap}
+use Rattle.std.proofs.Common.{sym, ◌∙◌, lit<}
 use Rattle.std.specs.Prelude.{◌==◌, if◌then◌else◌}
 use Rattle.std.specs.List.{range_with_len}
 use Rattle.std.specs.Int.Bits.{xor_zero_l, xor_zero_r}

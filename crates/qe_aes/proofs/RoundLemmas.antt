@@ -1,12 +1,15 @@
 -- The rounds, one after another, and how the cipher and its inverse undo each other.
 use Rattle.std.proofs.Common.{◌≡◌, ℕ, zero, suc, List, refl, ap, sym, ◌∙◌}
-use Rattle.qe_aes.specs.Steps.{sub_bytes, shift_rows, mix_columns, mix_factors, inv_mix_factors, inv_mix_columns, add_round_key, inv_sub_bytes, inv_shift_rows}
+use Rattle.qe_aes.specs.Steps.{sub_bytes, shift_rows, mix_columns, mix_factors, inv_mix_factors, inv_mix_columns, add_round_key}
+use Rattle.qe_aes.specs.Steps.{inv_sub_bytes, inv_shift_rows}
 use Rattle.qe_aes.specs.KeySchedule.{key_schedule}
 use Rattle.qe_aes.specs.Cipher.{round, rounds, cipher, inv_round, inv_rounds, inv_cipher, aes_256, inv_aes_256}
 use Rattle.qe_aes.specs.Laws.{AreBytes, IsBlock}
 use Rattle.qe_aes.proofs.ScheduleLemmas.{AreWords, AreWords-key_schedule}
-use Rattle.qe_aes.proofs.StepLemmas.{inv_sub_bytes-sub_bytes, sub_bytes-inv_sub_bytes, inv_shift_rows-shift_rows, shift_rows-inv_shift_rows, add_round_key-add_round_key}
-use Rattle.qe_aes.proofs.StepLemmas.{IsBlock-sub_bytes, IsBlock-inv_sub_bytes, IsBlock-shift_rows, IsBlock-inv_shift_rows, IsBlock-mixed, IsBlock-add_round_key}
+use Rattle.qe_aes.proofs.StepLemmas.{inv_sub_bytes-sub_bytes, sub_bytes-inv_sub_bytes, inv_shift_rows-shift_rows}
+use Rattle.qe_aes.proofs.StepLemmas.{shift_rows-inv_shift_rows, add_round_key-add_round_key}
+use Rattle.qe_aes.proofs.StepLemmas.{IsBlock-sub_bytes, IsBlock-inv_sub_bytes, IsBlock-shift_rows, IsBlock-inv_shift_rows}
+use Rattle.qe_aes.proofs.StepLemmas.{IsBlock-mixed, IsBlock-add_round_key}
 use Rattle.qe_aes.proofs.MixLemmas.{inv_mix_columns-mix_columns, mix_columns-inv_mix_columns}
 
 -- one more round

@@ -1,5 +1,6 @@
 -- The words of the key schedule, one after another.
-use Rattle.std.proofs.Common.{◌≡◌, ◌≢◌, ◌+◌, ◌-◌, ◌*◌, ◌/◌, ◌%◌, ◌<◌, ◌≤◌, ℕ, zero, suc, List, [], ◌∷◌, ◌++◌, true, length, take, drop, map, slice_index, slice_set, bit_xor, refl, ap, sym, subst, ◌∙◌, arith, length-append, lit<}
+use Rattle.std.proofs.Common.{◌≡◌, ◌≢◌, ◌+◌, ◌-◌, ◌*◌, ◌/◌, ◌%◌, ◌<◌, ◌≤◌, ℕ, zero, suc, List, [], ◌∷◌, ◌++◌, true, length, take}
+use Rattle.std.proofs.Common.{drop, map, slice_index, slice_set, bit_xor, refl, ap, sym, subst, ◌∙◌, arith, length-append, lit<}
 use Rattle.std.specs.Prelude.{◌==◌}
 use Rattle.std.specs.List.{concat, range_with_len}
 use Rattle.std.specs.Str.{bytes_eq}
@@ -9,10 +10,12 @@ use Rattle.std.proofs.lemmas.List.{take_more_set, map_push, get_or-map, get_or-t
 use Rattle.std.proofs.lemmas.Slice.Eq.{bytes_eq-Decides}
 use Rattle.qe_aes.specs.declared.schedule.TheConstants.{ROUND_CONSTANTS}
 use Rattle.qe_aes.specs.Field.{xor_bytes, sub_byte}
-use Rattle.qe_aes.specs.KeySchedule.{word_at, rot_word, sub_word, power_of_x, round_constant, temp_word, next_word, key_words, expansion, key_schedule}
+use Rattle.qe_aes.specs.KeySchedule.{word_at, rot_word, sub_word, power_of_x, round_constant, temp_word, next_word, key_words}
+use Rattle.qe_aes.specs.KeySchedule.{expansion, key_schedule}
 use Rattle.qe_aes.specs.Words.{word_bytes, words_of, key_of}
 use Rattle.qe_aes.specs.Laws.{AreBytes}
-use Rattle.qe_aes.proofs.ByteLemmas.{AreBytes-nil, AreBytes-cons, AreBytes-append, AreBytes-take, AreBytes-drop, AreBytes-map, AreBytes-xor_bytes}
+use Rattle.qe_aes.proofs.ByteLemmas.{AreBytes-nil, AreBytes-cons, AreBytes-append, AreBytes-take, AreBytes-drop, AreBytes-map}
+use Rattle.qe_aes.proofs.ByteLemmas.{AreBytes-xor_bytes}
 use Rattle.qe_aes.proofs.FieldLemmas.{sub_byte-lt, xtimes-lt}
 use Rattle.qe_aes.proofs.WordLemmas.{listed, word_bytes-xor}
 
@@ -39,11 +42,13 @@ unfolding temp_word
 temp_word-other i w not_first not_middle = grind (arith, nat_tests)
 
 -- one word more is written
-pub words_of-push : (words : List ℕ) (i w : ℕ) → i < length words → words_of (take (i + 1) (slice_set words i w)) ≡ words_of (take i words) ++ word_bytes w ∷ []
+pub words_of-push : (words : List ℕ) (i w : ℕ) → i < length words
+    → words_of (take (i + 1) (slice_set words i w)) ≡ words_of (take i words) ++ word_bytes w ∷ []
 words_of-push words i w lt = ap words_of (take_more_set words i w lt) ∙ map_push word_bytes (take i words) w
 
 -- a word that is written already
-word_at-words_of : (words : List ℕ) (i k : ℕ) → i ≤ length words → k < i → word_at (words_of (take i words)) k ≡ word_bytes (slice_index words k)
+word_at-words_of : (words : List ℕ) (i k : ℕ) → i ≤ length words → k < i
+    → word_at (words_of (take i words)) k ≡ word_bytes (slice_index words k)
 word_at-words_of words i k within lt =
     let long : length (take i words) ≡ i = length-take-le i words within in
     get_or-map word_bytes (take i words) k 0 [] (omega arith) ∙ ap word_bytes (get_or-take i words k 0 lt)

@@ -1,12 +1,14 @@
 -- The steps of a round undo each other, and make blocks of blocks.
-use Rattle.std.proofs.Common.{◌≡◌, ◌+◌, ◌-◌, ◌*◌, ◌/◌, ◌%◌, ◌<◌, ℕ, List, length, slice_index, bit_xor, refl, ap, sym, subst, ◌∙◌, arith, inl, inr, lit<}
+use Rattle.std.proofs.Common.{◌≡◌, ◌+◌, ◌-◌, ◌*◌, ◌/◌, ◌%◌, ◌<◌, ℕ, List, length, slice_index, bit_xor, refl, ap, sym, subst, ◌∙◌}
+use Rattle.std.proofs.Common.{arith, inl, inr, lit<}
 use Rattle.std.proofs.lemmas.Bool.{cases_lt}
 use Rattle.std.proofs.lemmas.List.{get_or_past}
 use Rattle.std.proofs.lemmas.List.FromFn.{fill_by_all, get_or-map-range_with_len}
 use Rattle.std.proofs.lemmas.Nat.{xor_lt}
 use Rattle.qe_aes.specs.Field.{sub_byte, inv_sub_byte}
 use Rattle.qe_aes.specs.KeySchedule.{word_at}
-use Rattle.qe_aes.specs.Steps.{at, state_of, sub_bytes, inv_sub_bytes, shift_rows, inv_shift_rows, mixed_row, column_of, mixed, add_round_key}
+use Rattle.qe_aes.specs.Steps.{at, state_of, sub_bytes, inv_sub_bytes, shift_rows, inv_shift_rows, mixed_row, column_of, mixed}
+use Rattle.qe_aes.specs.Steps.{add_round_key}
 use Rattle.qe_aes.specs.Laws.{IsBlock}
 use Rattle.qe_aes.proofs.FieldLemmas.{sub_byte-lt, inv_sub_byte-lt, inv_sub_byte-sub_byte, sub_byte-inv_sub_byte, xor-xor, product_below-lt}
 use Rattle.qe_aes.proofs.ScheduleLemmas.{AreWords}

@@ -1,4 +1,4 @@
-//! One column of a state, as its four bytes or as the word that they make, row 0 highest.
+//! One column of a state, as its four bytes or as the word that they make, with row 0 highest.
 
 ghost use Rattle.std.specs.Prelude.{◌≡◌, ◌+◌, ◌<◌, ◌≤◌, length, take, drop, map};
 ghost use Rattle.qe_aes.specs.Field.{sub_byte, inv_sub_byte};

@@ -8,4 +8,5 @@ use Rattle.qe_aes.proofs.columns.inv_sub.Goals as goal
 
 pub returns : goal.returns
 returns c =
-    word_bytes-looked_up INV_S_BOX inv_sub_byte c.args.column _ (search rules) INV_S_BOX-inv_sub_byte inv_sub_byte-lt (omega arith) (omega arith) (omega arith) (omega arith) c.from_be_bytes.ensures
+    word_bytes-looked_up INV_S_BOX inv_sub_byte c.args.column _ (search rules) INV_S_BOX-inv_sub_byte inv_sub_byte-lt (omega arith) (omega arith) (omega arith)
+    (omega arith) c.from_be_bytes.ensures

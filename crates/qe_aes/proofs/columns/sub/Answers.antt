@@ -8,4 +8,5 @@ use Rattle.qe_aes.proofs.columns.sub.Goals as goal
 
 pub returns : goal.returns
 returns c =
-    word_bytes-looked_up S_BOX sub_byte c.args.column _ (search rules) S_BOX-sub_byte sub_byte-lt (omega arith) (omega arith) (omega arith) (omega arith) c.from_be_bytes.ensures
+    word_bytes-looked_up S_BOX sub_byte c.args.column _ (search rules) S_BOX-sub_byte sub_byte-lt (omega arith) (omega arith) (omega arith)
+    (omega arith) c.from_be_bytes.ensures

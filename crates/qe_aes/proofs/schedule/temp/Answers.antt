@@ -10,8 +10,10 @@ use Rattle.qe_aes.proofs.schedule.temp.Goals as goal
 pub returns-in-0 : goal.returns-in-0
 unfolding word_bytes
 returns-in-0 c =
-    word_bytes-xor c.sub.result (slice_index ROUND_CONSTANTS (c.args.i / 8 - 1))
-    ∙ ap (λ b. xor_bytes b (word_bytes (slice_index ROUND_CONSTANTS (c.args.i / 8 - 1)))) (c.sub.ensures ∙ ap (λ b. sub_word (slice_index b 1 ∷ slice_index b 2 ∷ slice_index b 3 ∷ slice_index b 0 ∷ [])) c.to_be_bytes.ensures)
+    let constant = slice_index ROUND_CONSTANTS (c.args.i / 8 - 1) in
+    word_bytes-xor c.sub.result constant
+    ∙ ap (λ b. xor_bytes b (word_bytes constant)) (c.sub.ensures
+    ∙ ap (λ b. sub_word (slice_index b 1 ∷ slice_index b 2 ∷ slice_index b 3 ∷ slice_index b 0 ∷ [])) c.to_be_bytes.ensures)
     ∙ ap (xor_bytes (sub_word (rot_word (word_bytes c.args.before)))) (ROUND_CONSTANTS-power_of_x (c.args.i / 8 - 1) (omega arith))
     ∙ sym (temp_word-first c.args.i (word_bytes c.args.before) c.in-0.is)
 

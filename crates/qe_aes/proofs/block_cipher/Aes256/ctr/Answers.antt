@@ -12,7 +12,8 @@ loop-i-init c = sym (xored_front-nil c.args.bytes.now)
 
 pub loop-i-preserved : goal.loop-i-preserved
 loop-i-preserved c =
-    xored_front-key_stream c.args.self.now c.args.iv.now c.args.bytes.now c.loop-i.bytes c.xor_front.new.bytes c.loop-i.i (omega arith) (omega arith) c.loop-i.invariant
+    xored_front-key_stream c.args.self.now c.args.iv.now c.args.bytes.now c.loop-i.bytes c.xor_front.new.bytes c.loop-i.i
+    (omega arith) (omega arith) c.loop-i.invariant
     (c.xor_front.ensures
     ∙ ap (xored_front (take (length c.loop-i.bytes - 16 * c.loop-i.i) (drop (16 * c.loop-i.i) c.loop-i.bytes)))
     (c.encrypt-stream.ensures ∙ ap (aes_256 c.args.self.now) c.counter_block.ensures))
