@@ -11,6 +11,8 @@ mod memory;
 mod outside;
 mod standard;
 mod status;
+#[cfg(test)]
+mod tests;
 mod text;
 mod transfer;
 

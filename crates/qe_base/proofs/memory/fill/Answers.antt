@@ -1,4 +1,4 @@
-use Rattle.std.proofs.Common.{◌+◌, ◌-◌, ◌≤◌, ◌≡◌, ◌++◌, ap, ◌∙◌, length, take, arith, min}
+use Rattle.std.proofs.Common.{◌+◌, ◌++◌, ap, ◌∙◌, take, arith}
 use Rattle.std.proofs.lemmas.Grind.{common_steps}
 use Rattle.std.proofs.lemmas.Slice.{take-put_mid}
 use Rattle.qe_base.proofs.memory.fill.Goals as goal

@@ -1,4 +1,4 @@
-use Rattle.std.proofs.Common.{ℕ, ◌+◌, ◌-◌, ◌≤◌, List, length, take, drop, Option, ◌≡◌, subst, sym, ap, arith, ◌++◌, ◌∙◌}
+use Rattle.std.proofs.Common.{ℕ, ◌+◌, List, take, drop, Option, ◌≡◌, subst, sym, ap, arith, ◌++◌, ◌∙◌}
 use Rattle.std.proofs.lemmas.Grind.{common_steps}
 use Rattle.std.proofs.Math.Seq.{take-add}
 use Rattle.std.proofs.KnownBytes.{Appends-trans}

@@ -1,4 +1,4 @@
-use Rattle.std.proofs.Common.{◌<◌, ◌≡◌, bit_xor, length, arith, rules}
+use Rattle.std.proofs.Common.{bit_xor, arith, rules}
 use Rattle.std.proofs.lemmas.List.Edits.{map_over_more}
 use Rattle.qe_seal.proofs.mac.padded.Goals as goal
 

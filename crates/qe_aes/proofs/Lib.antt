@@ -1,0 +1,10 @@
+pub mod FieldLemmas
+pub mod TableLemmas
+pub mod WordLemmas
+pub mod RoundLemmas
+pub mod ByteLemmas
+pub mod ScheduleLemmas
+pub mod XorLemmas
+pub mod CounterLemmas
+pub mod StepLemmas
+pub mod MixLemmas

@@ -1,0 +1,17 @@
+use Rattle.std.proofs.Common.{refl}
+use Rattle.qe_aes.specs.Words.{word_bytes, state_bytes}
+use Rattle.qe_aes.proofs.state.State.store.Goals as goal
+
+pub returns : goal.returns
+unfolding word_bytes state_bytes
+returns c =
+    rw (
+      c.copy_from_slice.ensures.after,
+      c.copy_from_slice-2.ensures.after,
+      c.copy_from_slice-3.ensures.after,
+      c.copy_from_slice-4.ensures.after,
+      c.to_be_bytes.ensures,
+      c.to_be_bytes-2.ensures,
+      c.to_be_bytes-3.ensures,
+      c.to_be_bytes-4.ensures,
+    ) refl

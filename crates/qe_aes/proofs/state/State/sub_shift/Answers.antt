@@ -1,0 +1,14 @@
+use Rattle.std.proofs.Common.{map, ap, ◌∙◌}
+use Rattle.qe_aes.specs.Field.{sub_byte}
+use Rattle.qe_aes.specs.Words.{word_bytes, state_bytes}
+use Rattle.qe_aes.proofs.WordLemmas.{state_bytes-columns}
+use Rattle.qe_aes.proofs.state.State.sub_shift.Goals as goal
+
+pub returns : goal.returns
+unfolding word_bytes state_bytes
+returns c =
+    state_bytes-columns _ _ _ _ _ _ _ _
+    (c.sub.ensures ∙ ap (map sub_byte) c.diagonal.ensures)
+    (c.sub-2.ensures ∙ ap (map sub_byte) c.diagonal-2.ensures)
+    (c.sub-3.ensures ∙ ap (map sub_byte) c.diagonal-3.ensures)
+    (c.sub-4.ensures ∙ ap (map sub_byte) c.diagonal-4.ensures)
