@@ -1,7 +1,8 @@
-ghost use Rattle.std.specs.Prelude.{◌≡◌, ◌-◌, ◌++◌, ◌≤◌, length, drop, replicate};
+ghost use Rattle.std.specs.Prelude.{◌≡◌, ◌-◌, ◌++◌, ◌≤◌, length, replicate};
 ghost use Rattle.sha2.specs.Sha256.{sha256};
 ghost use Rattle.qe_seal.specs.Hmac.{key_block, padded_block, hmac_sha256, prf1_of, prf2_of};
 
+use crate::pieces::write_front;
 use sha2::{Digest, Sha256};
 
 /// The length of SHA-256's block, in bytes.
@@ -77,13 +78,6 @@ fn zero_padded(bytes: &[u8]) -> [u8; 64]
     let mut block = [0u8; BLOCK_LEN];
     write_front(&mut block, bytes);
     block
-}
-
-fn write_front(bytes: &mut [u8], front: &[u8])
-    requires { length front.now ≤ length bytes.old }
-    ensures { bytes.new ≡ front.now ++ drop (length front.now) bytes.old }
-{
-    bytes[..front.len()].copy_from_slice(front);
 }
 
 // The block with each byte combined with a pad.
