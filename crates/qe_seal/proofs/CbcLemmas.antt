@@ -1,5 +1,5 @@
 -- Chained blocks, one after another, as the loops make them.
-use Rattle.std.proofs.Common.{◌≡◌, ℕ, zero, suc, ◌+◌, ◌-◌, ◌*◌, ◌/◌, ◌%◌, ◌<◌, ◌≤◌, List, [], ◌++◌, length, take, drop, replicate, refl, ap, sym, ◌∙◌, arith, length-append, length-drop}
+use Rattle.std.proofs.Common.{◌≡◌, ℕ, suc, ◌+◌, ◌-◌, ◌*◌, ◌/◌, ◌<◌, ◌≤◌, List, ◌++◌, length, take, drop, replicate, ap, sym, ◌∙◌, arith, length-append, length-drop}
 use Rattle.std.proofs.lemmas.List.{append_assoc, append-nil, take_all, drop-append-le, take-append-le, drop-drop, length-replicate}
 use Rattle.qe_aes.specs.KeySchedule.{xor_bytes}
 use Rattle.qe_aes.specs.Cipher.{aes_256, inv_aes_256}

@@ -1,1 +1,5 @@
 pub mod CbcLemmas
+pub mod RelationLemmas
+pub mod InverseLemmas
+pub mod PaddingLemmas
+pub mod CbcLawLemmas

@@ -5,6 +5,7 @@
 
 mod blocks;
 mod cbc;
+mod laws;
 mod mac;
 mod padding;
 mod pieces;
@@ -12,4 +13,5 @@ mod pieces;
 mod tests;
 
 pub use cbc::{CbcFault, cbc_decrypt, cbc_encrypt};
+pub use laws::cbc_laws;
 pub use mac::{hmac, prf1, prf2};
