@@ -3,3 +3,5 @@ pub mod RelationLemmas
 pub mod InverseLemmas
 pub mod PaddingLemmas
 pub mod CbcLawLemmas
+pub mod SealLemmas
+pub mod SealLawLemmas

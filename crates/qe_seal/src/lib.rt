@@ -9,9 +9,11 @@ mod laws;
 mod mac;
 mod padding;
 mod pieces;
+mod sealed;
 #[cfg(test)]
 mod tests;
 
 pub use cbc::{CbcFault, cbc_decrypt, cbc_encrypt};
-pub use laws::cbc_laws;
-pub use mac::{hmac, prf1, prf2};
+pub use laws::{cbc_laws, seal_laws};
+pub use mac::{HmacKey, hmac, prf1, prf2};
+pub use sealed::{SealFault, seal, unseal};
