@@ -1,1 +1,6 @@
 pub mod Hmac
+pub mod HmacKey
+pub mod Cbc
+pub mod CbcLaws
+pub mod Sealed
+pub mod SealLaws

@@ -1,7 +1,9 @@
-ghost use Rattle.std.specs.Prelude.{◌≡◌, ◌-◌, ◌++◌, ◌≤◌, length, drop, replicate};
+ghost use Rattle.std.specs.Prelude.{◌≡◌, ℕ, List, ◌-◌, ◌++◌, ◌≤◌, length, replicate};
 ghost use Rattle.sha2.specs.Sha256.{sha256};
+ghost use Rattle.sha2.specs.Hashers.{Holds256};
 ghost use Rattle.qe_seal.specs.Hmac.{key_block, padded_block, hmac_sha256, prf1_of, prf2_of};
 
+use crate::pieces::write_front;
 use sha2::{Digest, Sha256};
 
 /// The length of SHA-256's block, in bytes.
@@ -13,11 +15,49 @@ const IPAD: u8 = 0x36;
 /// The byte of the outer pad.
 const OPAD: u8 = 0x5c;
 
+/// A key of HMAC-SHA-256 with its two pads hashed, for many messages under one key.
+#[derive(Drop)]
+pub struct HmacKey {
+    inner: Sha256,
+    outer: Sha256,
+}
+
+impl HmacKey {
+    ghost use Rattle.qe_seal.specs.HmacKey.{IsKeyedBy};
+
+    /// Hashes the pads. The key may have any length.
+    pub fn new(key: &[u8]) -> HmacKey
+        ensures { IsKeyedBy result key.now }
+    {
+        let block = block_of(key);
+        HmacKey {
+            inner: hasher_of(&padded(&block, IPAD)),
+            outer: hasher_of(&padded(&block, OPAD)),
+        }
+    }
+
+    /// `hmac` of a message under the key.
+    pub fn mac(&self, message: &[u8]) -> [u8; 32]
+        ensures { (key : List ℕ) → IsKeyedBy self.now key → result ≡ hmac_sha256 key message.now }
+    {
+        self.mac_of_parts(message, &[], &[])
+    }
+
+    /// `hmac` of a message in three parts, hashed one after another, so that no buffer is needed.
+    #[tactic(auto, unfolding(crate::specs::Hmac::hmac_sha256))]
+    pub(crate) fn mac_of_parts(&self, first: &[u8], second: &[u8], third: &[u8]) -> [u8; 32]
+        ensures { (key : List ℕ) → IsKeyedBy self.now key → result ≡ hmac_sha256 key (first.now ++ (second.now ++ third.now)) }
+    {
+        let digest = finish(&self.inner, first, second, third);
+        finish(&self.outer, &digest, &[], &[])
+    }
+}
+
 /// HMAC-SHA-256 of a message (RFC 2104). The key may have any length.
 pub fn hmac(key: &[u8], message: &[u8]) -> [u8; 32]
     ensures { result ≡ hmac_sha256 key.now message.now }
 {
-    hmac_of_parts(key, message, &[])
+    HmacKey::new(key).mac(message)
 }
 
 /// HMAC-SHA-256 of one number, as 8 little-endian bytes.
@@ -25,7 +65,7 @@ pub fn hmac(key: &[u8], message: &[u8]) -> [u8; 32]
 pub fn prf1(key: &[u8; 32], a: u64) -> [u8; 32]
     ensures { result ≡ prf1_of key.now a }
 {
-    hmac_of_parts(key, &a.to_le_bytes(), &[])
+    HmacKey::new(key).mac(&a.to_le_bytes())
 }
 
 /// HMAC-SHA-256 of two numbers, as 8 little-endian bytes each.
@@ -33,28 +73,27 @@ pub fn prf1(key: &[u8; 32], a: u64) -> [u8; 32]
 pub fn prf2(key: &[u8; 32], a: u64, b: u64) -> [u8; 32]
     ensures { result ≡ prf2_of key.now a b }
 {
-    hmac_of_parts(key, &a.to_le_bytes(), &b.to_le_bytes())
+    HmacKey::new(key).mac_of_parts(&a.to_le_bytes(), &b.to_le_bytes(), &[])
 }
 
-// HMAC of a message in two parts, hashed piece by piece, so that no buffer is needed.
-#[tactic(auto, unfolding(crate::specs::Hmac::hmac_sha256))]
-fn hmac_of_parts(key: &[u8], first: &[u8], second: &[u8]) -> [u8; 32]
-    ensures { result ≡ hmac_sha256 key.now (first.now ++ second.now) }
-{
-    let block = block_of(key);
-    let inner = hash_of_parts(&padded(&block, IPAD), first, second);
-    hash_of_parts(&padded(&block, OPAD), &inner, &[])
-}
-
-// SHA-256 of three parts, one after another.
-fn hash_of_parts(first: &[u8], second: &[u8], third: &[u8]) -> [u8; 32]
-    ensures { result ≡ sha256 (first.now ++ (second.now ++ third.now)) }
+// A hasher of one block.
+fn hasher_of(block: &[u8; 64]) -> Sha256
+    ensures { Holds256 result block.now }
 {
     let mut hasher = Sha256::new();
-    hasher.update(first);
-    hasher.update(second);
-    hasher.update(third);
-    hasher.finalize()
+    hasher.update(block);
+    hasher
+}
+
+// SHA-256 of what the hasher holds and three parts more. The hasher stays as it is.
+fn finish(hasher: &Sha256, first: &[u8], second: &[u8], third: &[u8]) -> [u8; 32]
+    ensures { (held : List ℕ) → Holds256 hasher.now held → result ≡ sha256 (held ++ (first.now ++ (second.now ++ third.now))) }
+{
+    let mut copy = hasher.clone().unwrap();
+    copy.update(first);
+    copy.update(second);
+    copy.update(third);
+    copy.finalize()
 }
 
 // The key as one block: a longer one is hashed, and zeros fill the rest.
@@ -77,13 +116,6 @@ fn zero_padded(bytes: &[u8]) -> [u8; 64]
     let mut block = [0u8; BLOCK_LEN];
     write_front(&mut block, bytes);
     block
-}
-
-fn write_front(bytes: &mut [u8], front: &[u8])
-    requires { length front.now ≤ length bytes.old }
-    ensures { bytes.new ≡ front.now ++ drop (length front.now) bytes.old }
-{
-    bytes[..front.len()].copy_from_slice(front);
 }
 
 // The block with each byte combined with a pad.

@@ -1,0 +1,14 @@
+//! What holds of CBC and of sealed values, each law as the contract of a function that does nothing.
+
+ghost use Rattle.qe_seal.specs.CbcLaws.{CbcLaws};
+ghost use Rattle.qe_seal.specs.SealLaws.{SealLaws};
+
+/// `cbc_encrypt` makes the only cipher that SP 800-38A allows, and `cbc_decrypt` and it undo each other.
+pub fn cbc_laws()
+    ensures { CbcLaws }
+{}
+
+/// `unseal` opens what `seal` makes, and nothing else.
+pub fn seal_laws()
+    ensures { SealLaws }
+{}
