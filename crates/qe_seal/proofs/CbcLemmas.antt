@@ -1,7 +1,7 @@
 -- Chained blocks, one after another, as the loops make them.
 use Rattle.std.proofs.Common.{◌≡◌, ℕ, suc, ◌+◌, ◌-◌, ◌*◌, ◌/◌, ◌<◌, ◌≤◌, List, ◌++◌, length, take, drop, replicate, ap, sym, ◌∙◌, arith, length-append, length-drop}
 use Rattle.std.proofs.lemmas.List.{append_assoc, append-nil, take_all, drop-append-le, take-append-le, drop-drop, length-replicate}
-use Rattle.qe_aes.specs.KeySchedule.{xor_bytes}
+use Rattle.qe_aes.specs.Field.{xor_bytes}
 use Rattle.qe_aes.specs.Cipher.{aes_256, inv_aes_256}
 use Rattle.qe_seal.specs.Cbc.{cbc_cipher, cbc_plain, padding_length, padded_bytes, cbc_encryption}
 

@@ -4,7 +4,7 @@ use Rattle.std.specs.List.{list_all}
 use Rattle.std.proofs.lemmas.Bool.{cases_Bool, and_parts, and_from, le-leb, leb-true, eqb-true, cond-true, cond-false}
 use Rattle.std.proofs.lemmas.List.{take_at, drop_at, take-append-drop, length-take-le, length-replicate, get_or-replicate, get_or-append_right}
 use Rattle.qe_aes.specs.Laws.{AreBytes}
-use Rattle.qe_aes.proofs.ByteLemmas.{bytes-nil, bytes-cons, bytes-append}
+use Rattle.qe_aes.proofs.ByteLemmas.{AreBytes-nil, AreBytes-cons, AreBytes-append}
 use Rattle.qe_seal.specs.declared.cbc.CbcFault.{CbcFault}
 use Rattle.qe_seal.specs.declared.cbc.CbcFault.TheVariants.{BadPadding}
 use Rattle.qe_seal.specs.Cbc.{padding_length, padded_bytes, last_byte, padding_start, ends_in_padding, unpadded_bytes}
@@ -22,14 +22,14 @@ replicate-list_all (x ∷ xs) b all =
     ap (λ y. y ∷ replicate (length xs) b) (sym (eqb-true x b parts.0)) ∙ ap (λ ys. x ∷ ys) (replicate-list_all xs b parts.1)
 
 bytes-replicate : (n b : ℕ) → b < 256 → AreBytes (replicate n b)
-bytes-replicate zero b lt = bytes-nil
-bytes-replicate (suc n) b lt = bytes-cons b (replicate n b) lt (bytes-replicate n b lt)
+bytes-replicate zero b lt = AreBytes-nil
+bytes-replicate (suc n) b lt = AreBytes-cons b (replicate n b) lt (bytes-replicate n b lt)
 
 -- padded bytes are bytes
 pub bytes-padded_bytes : (plain : List ℕ) → AreBytes plain → AreBytes (padded_bytes plain)
 unfolding padded_bytes
 bytes-padded_bytes plain bytes =
-    bytes-append plain (replicate (padding_length plain) (padding_length plain)) bytes
+    AreBytes-append plain (replicate (padding_length plain) (padding_length plain)) bytes
     (bytes-replicate (padding_length plain) (padding_length plain) (omega arith))
 
 -- what is left of bytes that end in b copies of b

@@ -1,7 +1,7 @@
 -- The CBC cipher of blocks meets the standard's relation, which nothing else does.
 use Rattle.std.proofs.Common.{◌≡◌, ℕ, zero, suc, ◌*◌, ◌<◌, ◌≤◌, List, [], ◌++◌, length, take, drop, refl, ap, sym, ◌∙◌, arith, length-append, length-drop}
 use Rattle.std.proofs.lemmas.List.{take_at, drop_at, drop-drop, take-append-drop, length-take-le}
-use Rattle.qe_aes.specs.KeySchedule.{xor_bytes}
+use Rattle.qe_aes.specs.Field.{xor_bytes}
 use Rattle.qe_aes.specs.Cipher.{aes_256}
 use Rattle.qe_aes.specs.CounterMode.{block_at}
 use Rattle.qe_aes.proofs.CounterLemmas.{length-aes_256}

@@ -6,7 +6,7 @@ use Rattle.std.proofs.lemmas.Slice.Eq.{bytes_eq-Decides}
 use Rattle.std.proofs.lemmas.List.{take_at, drop_at, take-append-drop, length-take-le}
 use Rattle.sha2.proofs.Facts256.{length-sha256}
 use Rattle.qe_aes.specs.Laws.{AreBytes, IsBlock}
-use Rattle.qe_aes.proofs.ByteLemmas.{bytes-take, bytes-drop}
+use Rattle.qe_aes.proofs.ByteLemmas.{AreBytes-take, AreBytes-drop}
 use Rattle.qe_seal.specs.Hmac.{hmac_sha256}
 use Rattle.qe_seal.specs.Cbc.{padded_bytes, cbc_encryption, cbc_decryption}
 use Rattle.qe_seal.specs.declared.cbc.CbcFault.{CbcFault}
@@ -49,7 +49,7 @@ opened_value-Seals key id iv plain bytes key_bytes iv_block plain_bytes is =
     ∙ ap (decrypted_body key) body_is
     ∙ ap (λ b. seal_answer (cbc_decryption (encryption_key key) b (drop 16 body))) (take_at iv cipher 16 iv_block.long)
     ∙ ap (λ b. seal_answer (cbc_decryption (encryption_key key) iv b)) (drop_at iv cipher 16 iv_block.long)
-    ∙ ap seal_answer (cbc_decryption-cbc_encryption (encryption_key key) iv plain (bytes-take 32 key key_bytes) iv_block plain_bytes)
+    ∙ ap seal_answer (cbc_decryption-cbc_encryption (encryption_key key) iv plain (AreBytes-take 32 key key_bytes) iv_block plain_bytes)
 
 -- 64 bytes or more whose MAC is right
 Seals-opened : (key id plain bytes : List ℕ) → AreBytes key → AreBytes bytes → 64 ≤ length bytes → seal_mac key id (body_of bytes) ≡ stored_mac bytes
@@ -58,15 +58,15 @@ unfolding Seals
 Seals-opened key id plain bytes key_bytes are_bytes long mac_is opens =
     let body = body_of bytes in
     let iv = take 16 body in
-    let body_bytes : AreBytes body = bytes-take (length bytes - 32) bytes are_bytes in
+    let body_bytes : AreBytes body = AreBytes-take (length bytes - 32) bytes are_bytes in
     let body_length : length body ≡ length bytes - 32 = length-take-le (length bytes - 32) bytes (omega arith) in
-    let iv_block : IsBlock iv = record { long = length-take-le 16 body (omega arith); bytes = bytes-take 16 body body_bytes } in
+    let iv_block : IsBlock iv = record { long = length-take-le 16 body (omega arith); bytes = AreBytes-take 16 body body_bytes } in
     let decrypted : cbc_decryption (encryption_key key) iv (drop 16 body) ≡ Ok plain =
     seal_answer-Ok (cbc_decryption (encryption_key key) iv (drop 16 body)) plain
     (sym (opened_value-opens key id bytes (seal_mac key id body) (stored_mac bytes) long refl refl ((bytes_eq-Decides (seal_mac key id body) (stored_mac bytes)).1 mac_is)) ∙ opens)
     in
     let cipher_is : cbc_encryption (encryption_key key) iv plain ≡ drop 16 body =
-    cbc_encryption-cbc_decryption (encryption_key key) iv (drop 16 body) plain (bytes-take 32 key key_bytes) iv_block (bytes-drop 16 body body_bytes) decrypted
+    cbc_encryption-cbc_decryption (encryption_key key) iv (drop 16 body) plain (AreBytes-take 32 key key_bytes) iv_block (AreBytes-drop 16 body body_bytes) decrypted
     in
     let body_is : body ≡ sealed_body key iv plain = sym (ap (λ c. iv ++ c) cipher_is ∙ take-append-drop 16 body) in
     (iv, iv_block, sym (take-append-drop (length bytes - 32) bytes) ∙ ap (λ m. body ++ m) (sym mac_is) ∙ ap (λ b. b ++ seal_mac key id b) body_is)

@@ -1,7 +1,7 @@
 -- The CBC mode of NIST SP 800-38A under AES-256, with the padding of RFC 5652.
 use Rattle.std.specs.Prelude.{◌≡◌, ℕ, zero, suc, ◌-◌, ◌*◌, ◌/◌, ◌%◌, ◌<◌, List, [], ◌++◌, length, take, drop, replicate, slice_index, Result, Ok, Err, ◌==◌, ◌&&◌, Bool, not, nat_le, if◌then◌else◌}
 use Rattle.std.specs.List.{list_all}
-use Rattle.qe_aes.specs.KeySchedule.{xor_bytes}
+use Rattle.qe_aes.specs.Field.{xor_bytes}
 use Rattle.qe_aes.specs.Cipher.{aes_256, inv_aes_256}
 use Rattle.qe_aes.specs.CounterMode.{block_at}
 use Rattle.qe_seal.specs.declared.cbc.CbcFault.{CbcFault}

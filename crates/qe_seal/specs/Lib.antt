@@ -4,3 +4,4 @@ pub mod Cbc
 pub mod CbcLaws
 pub mod Sealed
 pub mod SealLaws
+pub mod Examples

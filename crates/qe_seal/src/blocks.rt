@@ -1,7 +1,7 @@
 //! Blocks that are chained: each is combined with the cipher block before it.
 
 ghost use Rattle.std.specs.Prelude.{◌≡◌, ◌/◌, ◌%◌, ◌++◌, length, IfOk, OnOk};
-ghost use Rattle.qe_aes.specs.KeySchedule.{xor_bytes};
+ghost use Rattle.qe_aes.specs.Field.{xor_bytes};
 ghost use Rattle.qe_seal.specs.Cbc.{cbc_encryption, cbc_plain};
 
 use crate::padding::last_block;

@@ -8,7 +8,7 @@ use std::alloc::Global;
 use thiserror::Error;
 
 /// Why bytes aren't decrypted.
-#[derive(Debug, Drop, Error)]
+#[derive(Clone, Copy, Debug, PartialEq, Eq, Error)]
 pub enum CbcFault {
     /// The length is 0 or no multiple of 16.
     #[error("the length is not one block or more")]

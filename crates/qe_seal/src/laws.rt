@@ -1,7 +1,8 @@
-//! What holds of CBC and of sealed values, each law as the contract of a function that does nothing.
+//! What holds of hashes, CBC and sealed values, each law as the contract of a function that does nothing.
 
 ghost use Rattle.qe_seal.specs.CbcLaws.{CbcLaws};
 ghost use Rattle.qe_seal.specs.SealLaws.{SealLaws};
+ghost use Rattle.qe_seal.specs.Examples.{IsHmacExample, IsCbcExample};
 
 /// `cbc_encrypt` makes the only cipher that SP 800-38A allows, and `cbc_decrypt` and it undo each other.
 pub fn cbc_laws()
@@ -11,4 +12,10 @@ pub fn cbc_laws()
 /// `unseal` opens what `seal` makes, and nothing else.
 pub fn seal_laws()
     ensures { SealLaws }
+{}
+
+/// Vectors of RFC 4231 and SP 800-38A, computed by the definitions that the contracts cite.
+pub fn examples()
+    ensures hmac { IsHmacExample }
+    ensures cbc { IsCbcExample }
 {}

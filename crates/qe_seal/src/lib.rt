@@ -1,6 +1,8 @@
-//! Keyed hashes and sealed values: HMAC over SHA-256 (RFC 2104), and AES-256-CBC (NIST SP 800-38A).
+//! Keyed hashes and sealed values: HMAC-SHA-256 (RFC 2104), AES-256-CBC (NIST SP 800-38A), and both together.
 //!
-//! Each call is the standard's function of its arguments. The hashes take no memory.
+//! Each call answers what its standard's function gives, and each refusal comes exactly where it is due. `laws` says
+//! that decryption undoes encryption, and that a value opens exactly where it is sealed. The hashes take no memory.
+//! Read: mac, cbc, sealed, laws; the definitions in `specs/` stand in the same order.
 #![tactic(auto)]
 
 mod blocks;
@@ -14,6 +16,6 @@ mod sealed;
 mod tests;
 
 pub use cbc::{CbcFault, cbc_decrypt, cbc_encrypt};
-pub use laws::{cbc_laws, seal_laws};
+pub use laws::{cbc_laws, examples, seal_laws};
 pub use mac::{HmacKey, hmac, prf1, prf2};
 pub use sealed::{SealFault, seal, unseal};

@@ -17,7 +17,7 @@ const MAC_LEN: usize = 32;
 const SHORTEST: usize = BLOCK_LEN + BLOCK_LEN + MAC_LEN;
 
 /// Why a sealed value isn't opened: the first of these that holds.
-#[derive(Debug, Drop, Error)]
+#[derive(Clone, Copy, Debug, PartialEq, Eq, Error)]
 pub enum SealFault {
     /// There are fewer than 64 bytes.
     #[error("fewer than 64 bytes")]

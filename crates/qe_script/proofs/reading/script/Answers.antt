@@ -21,7 +21,7 @@ returns-in_err-commands c =
     let p = err_from_is_err_and c.from_residual-in_err-commands.result c.from_residual-in_err-commands.ensures.1 in
     let said = sym (c.or_fault.ensures ∙ ap (or_fault c.in-Some.number) c.in_ok-read_header.ensures) in
     rw (p.1, p.2)
-    (gives_on _ _ _ (rw (c.as_str.ensures) at c.in_err-commands.ensures)
+    (gives_on _ _ _ (rw (c.as_str.ensures.value) at c.in_err-commands.ensures)
     (script-bad_command _ _ _ c.in_ok-header.header _ (sym c.of-lines.ensures ∙ c.in-Some.ensures) (said ∙ c.in_ok-header.was)))
 
 pub returns : goal.returns
@@ -29,4 +29,4 @@ unfolding script_of
 returns c =
     let said = sym (c.or_fault.ensures ∙ ap (or_fault c.in-Some.number) c.in_ok-read_header.ensures) in
     script-whole _ _ _ c.in_ok-header.header _ (sym c.of-lines.ensures ∙ c.in-Some.ensures) (said ∙ c.in_ok-header.was)
-    (rw (c.as_str.ensures) at c.in_ok-commands.ensures)
+    (rw (c.as_str.ensures.value) at c.in_ok-commands.ensures)

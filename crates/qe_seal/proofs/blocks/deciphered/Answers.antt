@@ -1,5 +1,5 @@
 use Rattle.std.proofs.Common.{◌≡◌, ◌+◌, ◌++◌, ap, sym, ◌∙◌, arith}
-use Rattle.qe_aes.specs.KeySchedule.{xor_bytes}
+use Rattle.qe_aes.specs.Field.{xor_bytes}
 use Rattle.qe_aes.specs.Cipher.{inv_aes_256}
 use Rattle.qe_seal.proofs.CbcLemmas.{plain_from, plain_from-next, plain_from-end}
 use Rattle.qe_seal.proofs.blocks.deciphered.Goals as goal

@@ -1,5 +1,5 @@
 use Rattle.std.proofs.Common.{◌≡◌, ◌+◌, ◌*◌, ◌/◌, ◌++◌, length, take, drop, ap, sym, ◌∙◌, arith}
-use Rattle.qe_aes.specs.KeySchedule.{xor_bytes}
+use Rattle.qe_aes.specs.Field.{xor_bytes}
 use Rattle.qe_aes.specs.Cipher.{aes_256}
 use Rattle.qe_seal.specs.Cbc.{padded_bytes}
 use Rattle.qe_seal.proofs.CbcLemmas.{cipher_from, cipher_from-start, cipher_from-next, cipher_from-end}
