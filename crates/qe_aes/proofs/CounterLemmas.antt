@@ -12,7 +12,7 @@ use Rattle.qe_aes.specs.CounterMode.{counter_block, block_at, IsCounterMode, key
 use Rattle.qe_aes.proofs.XorLemmas.{length-xor_bytes, take-xor_bytes, drop-xor_bytes, xor_bytes-xor_bytes, xored_front, xored_front-append}
 
 -- the length of a cipher block
-length-aes_256 : (key block : List ℕ) → length (aes_256 key block) ≡ 16
+pub length-aes_256 : (key block : List ℕ) → length (aes_256 key block) ≡ 16
 unfolding cipher aes_256
 length-aes_256 key block = refl
 
