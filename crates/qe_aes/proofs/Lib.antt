@@ -1,10 +1,10 @@
+pub mod ByteLemmas
 pub mod FieldLemmas
 pub mod TableLemmas
 pub mod WordLemmas
-pub mod RoundLemmas
-pub mod ByteLemmas
 pub mod ScheduleLemmas
-pub mod XorLemmas
-pub mod CounterLemmas
 pub mod StepLemmas
 pub mod MixLemmas
+pub mod RoundLemmas
+pub mod XorLemmas
+pub mod CounterLemmas
