@@ -5,9 +5,11 @@ mod CoverLemmas
 mod EdgeLemmas
 mod LevelLemmas
 mod ListLemmas
+mod MultipleLemmas
 mod OffsetLemmas
 mod RulesLemmas
 mod ShareLemmas
+mod StepLemmas
 mod TallyLemmas
 mod TextLemmas
 mod WalkLemmas

@@ -2,7 +2,8 @@ use Rattle.std.proofs.Common.{◌≡◌, ◌-◌, ◌*◌, ◌%◌, ◌^◌, len
 use Rattle.std.proofs.lemmas.Nat.{one_shl}
 use Rattle.std.proofs.lemmas.List.{length_push}
 use Rattle.qe_edges.proofs.BlockLemmas.{size_at}
-use Rattle.qe_edges.proofs.WalkLemmas.{walk_starts, walk_ends, walk_goes_on, walk_spells}
+use Rattle.qe_edges.proofs.WalkLemmas.{walk_starts, walk_ends, walk_spells}
+use Rattle.qe_edges.proofs.StepLemmas.{walk_goes_on}
 use Rattle.qe_edges.proofs.TallyLemmas.{counted_at_start, counted_at_end, counted_on}
 use Rattle.qe_edges.proofs.domain.Domain.walk.Goals as goal
 
