@@ -2,15 +2,15 @@
 use Rattle.std.proofs.Common.{◌≡◌, ◌^◌, ℕ, ℤ, pos, negsuc, List, [], ◌∷◌, Bool, true, false, cond, Option, Some, None, Result, Ok, Err, refl, subst}
 use Rattle.std.proofs.lemmas.Bool.{ltb-true}
 use Rattle.std.specs.Int.{w32}
-use Rattle.std.specs.Prelude.{FitsSigned, nat_lt, ◌&&◌, codes}
+use Rattle.std.specs.Prelude.{FitsSigned, nat_lt, ◌&&◌, codes, option_map}
 use Rattle.serde_json.specs.Data.{Data}
 use Rattle.serde_json.specs.Find.{get, as_number, as_i64}
 use Rattle.qe_script.specs.declared.script.Command.{Command}
-use Rattle.qe_script.specs.declared.script.Command.TheVariants.{Insert, Ids}
+use Rattle.qe_script.specs.declared.script.Command.TheVariants.{Insert, Find, Ids}
 use Rattle.qe_script.specs.declared.script.Header.{Header}
 use Rattle.qe_script.specs.declared.script.Script.{Script}
 use Rattle.qe_script.specs.declared.script.ScriptFault.{ScriptFault}
-use Rattle.qe_script.specs.Forms.{◌>>=◌, has_names, has_text, fit_int32, int32_at, insert_of, ids_of, command_of, json_of}
+use Rattle.qe_script.specs.Forms.{◌>>=◌, has_names, has_text, fit_int32, int32_at, insert_of, asked_of, command_of, json_of}
 use Rattle.qe_script.specs.Lines.{lines_of, numbered}
 use Rattle.qe_script.specs.Script.{on_ok, or_fault, line_command, line_header, commands_of, script_with, script_from, script_of, FitsInt32, AllInt32}
 
@@ -52,25 +52,35 @@ insert_of-fits path d command e =
     by_test true id value id_fits value_fits e = let here : Insert id value ≡ command = cc in subst FitsInt32 here (id_fits, value_fits)
     by_test false id value id_fits value_fits e = cc
 
-ids_of-fits : (path : List ℕ) (d : Data) (command : Command) → ids_of path d ≡ Some command → FitsInt32 command
-unfolding ids_of
-ids_of-fits path d command e =
-    let asked = gave (get (codes "filter") d) _ command e in
-    let value = gave (int32_at path asked.value) _ command asked.then in
+asked_of-fits : (path : List ℕ) (d : Data) (v : ℤ) → asked_of path d ≡ Some v → FitsSigned w32 v
+unfolding asked_of
+asked_of-fits path d v e =
+    let asked = gave (get (codes "filter") d) _ v e in
+    let value = gave (int32_at path asked.value) _ v asked.then in
     by_test (has_names 2 d && has_names 1 asked.value) value.value (int32_at-fits _ _ _ value.found) value.then
   where
-    by_test : (b : Bool) (value : ℤ) → FitsSigned w32 value → cond b (Some (Ids value)) None ≡ Some command → FitsInt32 command
-    by_test true value fits e = let here : Ids value ≡ command = cc in subst FitsInt32 here fits
+    by_test : (b : Bool) (value : ℤ) → FitsSigned w32 value → cond b (Some value) None ≡ Some v → FitsSigned w32 v
+    by_test true value fits e = let here : value ≡ v = cc in subst (FitsSigned w32) here fits
     by_test false value fits e = cc
 
 command_of-fits : (path : List ℕ) (d : Data) (command : Command) → command_of path d ≡ Some command → FitsInt32 command
 unfolding command_of
-command_of-fits path d command e = by_test (has_text (codes "do") (codes "insert") d) (has_text (codes "do") (codes "ids") d) e
+command_of-fits path d command e =
+    by_test (has_text (codes "do") (codes "insert") d) (has_text (codes "do") (codes "find") d) (has_text (codes "do") (codes "ids") d) e
   where
-    by_test : (insert ids : Bool) → cond insert (insert_of path d) (cond ids (ids_of path d) None) ≡ Some command → FitsInt32 command
-    by_test true ids e = insert_of-fits path d command e
-    by_test false true e = ids_of-fits path d command e
-    by_test false false e = cc
+    of_search : (search : ℤ → Command) (asked : Option ℤ) → ((v : ℤ) → FitsSigned w32 v → FitsInt32 (search v))
+        → ((v : ℤ) → asked ≡ Some v → FitsSigned w32 v) → option_map search asked ≡ Some command → FitsInt32 command
+    of_search search None same fits e = cc
+    of_search search (Some v) same fits e =
+        let here : search v ≡ command = cc in subst FitsInt32 here (same v (fits v refl))
+
+    by_test : (insert find ids : Bool)
+        → cond insert (insert_of path d) (cond find (option_map Find (asked_of path d)) (cond ids (option_map Ids (asked_of path d)) None)) ≡ Some command
+        → FitsInt32 command
+    by_test true find ids e = insert_of-fits path d command e
+    by_test false true ids e = of_search Find (asked_of path d) (λ v fits. fits) (asked_of-fits path d) e
+    by_test false false true e = of_search Ids (asked_of path d) (λ v fits. fits) (asked_of-fits path d) e
+    by_test false false false e = cc
 
 commands_of-int32 : (path : List ℕ) (lines : List (ℕ × List ℕ)) (commands : List Command) → commands_of path lines ≡ Ok commands → AllInt32 commands
 unfolding commands_of

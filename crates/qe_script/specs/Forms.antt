@@ -1,5 +1,5 @@
 -- What a line says, as a function of the JSON value that it is.
-use Rattle.std.specs.Prelude.{ℕ, ◌^◌, ◌&&◌, ◌||◌, ◌==◌, ℤ, pos, negsuc, List, length, slice_index, Bool, false, nat_lt, nat_le, codes, if◌then◌else◌, Option, Some, None}
+use Rattle.std.specs.Prelude.{ℕ, ◌^◌, ◌&&◌, ◌||◌, ◌==◌, ℤ, pos, negsuc, List, length, slice_index, Bool, false, nat_lt, nat_le, codes, if◌then◌else◌, Option, Some, None, option_map}
 use Rattle.std.specs.Option.{option_map_or}
 use Rattle.std.specs.List.{list_all}
 use Rattle.std.specs.Char.{is_ascii_alphabetic, is_ascii_alphanumeric}
@@ -13,7 +13,7 @@ use Rattle.serde_json.specs.Read.{read}
 use Rattle.hex.specs.Hex.{decode_sized}
 use Rattle.uuid.specs.Text.{parsed}
 use Rattle.qe_script.specs.declared.script.Command.{Command}
-use Rattle.qe_script.specs.declared.script.Command.TheVariants.{Insert, Ids}
+use Rattle.qe_script.specs.declared.script.Command.TheVariants.{Insert, Find, Ids}
 use Rattle.qe_script.specs.declared.script.Field.{Field}
 
 infixl 10 ◌>>=◌
@@ -88,15 +88,16 @@ insert_of path d = do
   value ← int32_at path doc
   if has_names 2 d && has_names 2 doc then Some (Insert id value) else None
 
--- `{"do":"ids","filter":{"PATH":VALUE}}`
-unfoldable pub ids_of : List ℕ → Data → Option Command
-ids_of path d = do
+-- the value that a search asks for: `{"do":WORD,"filter":{"PATH":VALUE}}`
+unfoldable pub asked_of : List ℕ → Data → Option ℤ
+asked_of path d = do
   asked ← get (codes "filter") d
   value ← int32_at path asked
-  if has_names 2 d && has_names 1 asked then Some (Ids value) else None
+  if has_names 2 d && has_names 1 asked then Some value else None
 
 unfoldable pub command_of : List ℕ → Data → Option Command
 command_of path d =
     if has_text (codes "do") (codes "insert") d then insert_of path d
-    else if has_text (codes "do") (codes "ids") d then ids_of path d
+    else if has_text (codes "do") (codes "find") d then option_map Find (asked_of path d)
+    else if has_text (codes "do") (codes "ids") d then option_map Ids (asked_of path d)
     else None

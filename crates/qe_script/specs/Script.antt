@@ -2,7 +2,7 @@
 use Rattle.std.specs.Prelude.{◌≡◌, ℕ, List, [], ◌∷◌, Option, Some, None, Result, Ok, Err, FitsSigned}
 use Rattle.std.specs.Int.{w32}
 use Rattle.qe_script.specs.declared.script.Command.{Command}
-use Rattle.qe_script.specs.declared.script.Command.TheVariants.{Insert, Ids}
+use Rattle.qe_script.specs.declared.script.Command.TheVariants.{Insert, Find, Ids}
 use Rattle.qe_script.specs.declared.script.Header.{Header}
 use Rattle.qe_script.specs.declared.script.Script.{Script}
 use Rattle.qe_script.specs.declared.script.ScriptFault.{ScriptFault}
@@ -50,6 +50,7 @@ script_of bytes = script_from (numbered 1 (lines_of bytes))
 -- a command's numbers are int32s
 abbrev pub FitsInt32 : Command → Type 0
 FitsInt32 (Insert id value) = FitsSigned w32 id × FitsSigned w32 value
+FitsInt32 (Find value) = FitsSigned w32 value
 FitsInt32 (Ids value) = FitsSigned w32 value
 
 abbrev pub AllInt32 : List Command → Type 0

@@ -3,7 +3,7 @@ ghost use Rattle.std.specs.Char.{is_ascii_alphabetic, is_ascii_alphanumeric};
 ghost use Rattle.std.specs.List.{list_all};
 ghost use Rattle.serde_json.specs.View.{view, items_view};
 ghost use Rattle.qe_script.specs.Forms.{has_names, only_item, text_at, hex_at, int32_at, has_text, is_path, has_zero, uuid_at, is_int_equality};
-ghost use Rattle.qe_script.specs.Forms.{insert_of, ids_of, command_of};
+ghost use Rattle.qe_script.specs.Forms.{insert_of, asked_of, command_of};
 
 use crate::Command;
 use hex::FromHex;
@@ -125,15 +125,15 @@ fn insert_form(value: &Value, path: &str) -> Option<Command>
     }
 }
 
-// `{"do":"ids","filter":{"PATH":VALUE}}`
-#[tactic(auto, unfolding(crate::specs::Forms::ids_of))]
-fn ids_form(value: &Value, path: &str) -> Option<Command>
-    ensures { result ≡ ids_of path.now (view value.now) }
+// The value that a search asks for: `{"do":WORD,"filter":{"PATH":VALUE}}`
+#[tactic(auto, unfolding(crate::specs::Forms::asked_of))]
+fn asked(value: &Value, path: &str) -> Option<i32>
+    ensures { result ≡ asked_of path.now (view value.now) }
 {
-    let asked = value.get("filter")?;
-    let number = int32_at(asked, path)?;
-    if has_names(value, 2) && has_names(asked, 1) {
-        Some(Command::Ids { value: number })
+    let filter = value.get("filter")?;
+    let number = int32_at(filter, path)?;
+    if has_names(value, 2) && has_names(filter, 1) {
+        Some(number)
     } else {
         None
     }
@@ -145,8 +145,12 @@ pub fn command_form(value: &Value, path: &str) -> Option<Command>
 {
     if has_text(value, "do", "insert") {
         insert_form(value, path)
+    } else if has_text(value, "do", "find") {
+        let value = asked(value, path)?;
+        Some(Command::Find { value })
     } else if has_text(value, "do", "ids") {
-        ids_form(value, path)
+        let value = asked(value, path)?;
+        Some(Command::Ids { value })
     } else {
         None
     }

@@ -16,6 +16,8 @@ pub struct Field {
 pub enum Command {
     /// Adds a document with this id and this value of the field.
     Insert { id: i32, value: i32 },
+    /// Asks for the documents whose field has this value.
+    Find { value: i32 },
     /// Asks for the ids of the documents whose field has this value.
     Ids { value: i32 },
 }

@@ -59,7 +59,9 @@ fn the_first_faulty_line_is_named(rt: HostRuntime) -> Result<(), Fail> {
             Some(2),
         ),
         ("age", "{\"do\":\"ids\"}", Some(2)),
-        ("age", "{\"do\":\"find\",\"filter\":{\"age\":5}}", Some(2)),
+        ("age", "{\"do\":\"find\",\"filter\":{\"age\":5}}", None),
+        ("age", "{\"do\":\"find\"}", Some(2)),
+        ("age", "{\"do\":\"drop\",\"filter\":{\"age\":5}}", Some(2)),
         (
             "age",
             "{\"do\":\"insert\",\"doc\":{\"_id\":\"1\",\"age\":5}}",
@@ -94,7 +96,7 @@ fn the_first_faulty_line_is_named(rt: HostRuntime) -> Result<(), Fail> {
 #[test]
 fn a_script_is_what_its_lines_say(rt: HostRuntime) -> Result<(), Fail> {
     let lines =
-        "{\"do\":\"insert\",\"doc\":{\"age\":-7,\"_id\":1}}\n{\"filter\":{\"age\":5},\"do\":\"ids\"}";
+        "{\"do\":\"insert\",\"doc\":{\"age\":-7,\"_id\":1}}\n{\"filter\":{\"age\":5},\"do\":\"ids\"}\n{\"do\":\"find\",\"filter\":{\"age\":6}}";
     let text = script(rt.alloc(), "age", lines)?;
     let Ok(read) = read_script(rt.alloc(), text.as_bytes()) else {
         return Err("no script")?;
@@ -102,6 +104,7 @@ fn a_script_is_what_its_lines_say(rt: HostRuntime) -> Result<(), Fail> {
     let commands = [
         Command::Insert { id: 1, value: -7 },
         Command::Ids { value: 5 },
+        Command::Find { value: 6 },
     ];
     assert_eq!(rt; read.commands.slice(), commands.as_slice());
     assert_eq!(rt; read.header.field.path.as_str(), "age");
