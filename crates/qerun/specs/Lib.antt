@@ -1,7 +1,10 @@
 pub mod Client
+pub mod Draws
 pub mod Due
+pub mod Opening
 pub mod Plain
 pub mod Server
+pub mod Stored
 pub mod Text
 pub mod Top
 pub mod Words

@@ -3,14 +3,10 @@ use Rattle.std.specs.Prelude.{ℤ, List, [], ◌∷◌, ◌++◌, Bool, map, fil
 use Rattle.std.specs.List.{list_any}
 use Rattle.std.specs.Ordering.{int_eq}
 use Rattle.qe_script.specs.declared.script.Command.{Command}
-use Rattle.qe_script.specs.declared.script.Command.TheVariants.{Insert, Ids}
+use Rattle.qe_script.specs.declared.script.Command.TheVariants.{Insert, Find, Ids}
+use Rattle.qerun.specs.declared.document.Document.{Document}
 use Rattle.qerun.specs.declared.reply.Reply.{Reply}
 use Rattle.qerun.specs.declared.reply.Reply.TheVariants as reply
-
--- an id, and the value of the one field
-pub record Document : Type 0 where
-  pub id : ℤ
-  pub value : ℤ
 
 abbrev pub has_id : List Document → ℤ → Bool
 has_id documents id = list_any (λ d. int_eq d.id id) documents
@@ -18,11 +14,17 @@ has_id documents id = list_any (λ d. int_eq d.id id) documents
 -- an insert whose id is there changes nothing
 abbrev pub documents_after : List Document → Command → List Document
 documents_after documents (Insert id value) = if has_id documents id then documents else documents ++ record { id = id; value = value } ∷ []
+documents_after documents (Find value) = documents
 documents_after documents (Ids value) = documents
+
+-- the documents with this value, in order
+abbrev pub matching : List Document → ℤ → List Document
+matching documents value = filter (λ d. int_eq d.value value) documents
 
 abbrev pub plain_reply : List Document → Command → Reply
 plain_reply documents (Insert id value) = if has_id documents id then reply.Duplicate else reply.Inserted
-plain_reply documents (Ids value) = reply.Ids (map (λ d. d.id) (filter (λ d. int_eq d.value value) documents))
+plain_reply documents (Find value) = reply.Found (matching documents value)
+plain_reply documents (Ids value) = reply.Ids (map (λ d. d.id) (matching documents value))
 
 -- the replies to a list of commands, from these documents on
 abbrev pub replies_from : List Document → List Command → List Reply

@@ -4,13 +4,15 @@ use Rattle.std.specs.List.{list_any, range_with_len}
 use Rattle.std.specs.Ordering.{int_eq}
 use Rattle.std.specs.Str.{bytes_eq}
 use Rattle.qe_tokens.specs.Tokens.{esc_tag_of, edc_twice_of, position_of, document_tag_of}
+use Rattle.qerun.specs.Stored.{server_value}
+use Rattle.qerun.specs.declared.answer.Answer.{Answer}
+use Rattle.qerun.specs.declared.answer.Answer.TheVariants as answer
+use Rattle.qerun.specs.declared.request.Payload.{Payload}
 use Rattle.qerun.specs.declared.request.Request.{Request}
-use Rattle.qerun.specs.declared.request.Request.TheVariants.{Insert, Ids}
+use Rattle.qerun.specs.declared.request.Request.TheVariants.{Insert, Find, Ids}
 use Rattle.qerun.specs.declared.request.WordTokens.{WordTokens}
-use Rattle.qerun.specs.declared.reply.Reply.{Reply}
-use Rattle.qerun.specs.declared.reply.Reply.TheVariants as reply
 use Rattle.qerun.specs.declared.server.Server.{Server}
-use Rattle.qerun.specs.declared.server.Stored.{Stored}
+use Rattle.qerun.specs.declared.stored.Stored.{Stored}
 
 -- the identifier of a word's position row
 abbrev pub row_id : WordTokens → ℕ → List ℕ
@@ -32,29 +34,34 @@ has_stored documents id = list_any (λ d. int_eq d.id id) documents
 abbrev pub tags_to : WordTokens → ℕ → List (List ℕ)
 tags_to tokens count = map (λ k. tag_id tokens (k + 1)) (range_with_len 0 count)
 
--- the ids of the documents that have one of these tags
-abbrev pub ids_tagged : List (List ℕ) → List Stored → List ℤ
-ids_tagged tags documents = map (λ d. d.id) (filter (λ d. list_any (λ tag. bytes_eq tag d.tag) tags) documents)
+-- the documents that have one of these tags
+abbrev pub tagged_among : List (List ℕ) → List Stored → List Stored
+tagged_among tags documents = filter (λ d. list_any (λ tag. bytes_eq tag d.tag) tags) documents
 
--- an insert adds the next position and a document with that value's tag
-pub record Adds (old new : Server) (id : ℤ) (tokens : WordTokens) : Type 0 where
+-- an insert adds the next position, and a document with that value's tag and the value under the server's cipher
+pub record Adds (iv : List ℕ) (old new : Server) (id : ℤ) (payload : Payload) : Type 0 where
   pub fresh : has_stored old.documents id ≡ false
   pub count : ℕ
-  pub counted : IsCount old.rows tokens count
-  pub row : new.rows ≡ old.rows ++ row_id tokens (count + 1) ∷ []
-  pub document : new.documents ≡ old.documents ++ record { id = id; tag = tag_id tokens (count + 1) } ∷ []
+  pub counted : IsCount old.rows payload.tokens count
+  pub row : new.rows ≡ old.rows ++ row_id payload.tokens (count + 1) ∷ []
+  pub document : new.documents ≡ old.documents
+      ++ record { id = id; tag = tag_id payload.tokens (count + 1); value = server_value payload.cipher.0 iv payload.value } ∷ []
 
--- a search answers the documents that have one of the tags counted
-pub record Finds (old new : Server) (tokens : WordTokens) (ids : List ℤ) : Type 0 where
-  pub same : new ≡ old
+-- a search finds the documents that have one of the tags counted
+pub record Finds (server : Server) (tokens : WordTokens) (found : List Stored) : Type 0 where
   pub count : ℕ
-  pub counted : IsCount old.rows tokens count
-  pub tagged : ids ≡ ids_tagged (tags_to tokens count) old.documents
+  pub counted : IsCount server.rows tokens count
+  pub tagged : found ≡ tagged_among (tags_to tokens count) server.documents
 
--- a request, the server before and after it, and the reply
-abbrev pub Serves : Request → Server → Server → Reply → Type 0
-Serves (Insert id tokens) old new reply.Duplicate = (has_stored old.documents id ≡ true) × (new ≡ old)
-Serves (Insert id tokens) old new reply.Inserted = Adds old new id tokens
-Serves (Insert id tokens) old new (reply.Ids ids) = ⊥
-Serves (Ids tokens) old new (reply.Ids ids) = Finds old new tokens ids
-Serves (Ids tokens) old new _ = ⊥
+pub record FindsIds (server : Server) (tokens : WordTokens) (ids : List ℤ) : Type 0 where
+  pub found : List Stored
+  pub finds : Finds server tokens found
+  pub named : ids ≡ map (λ d. d.id) found
+
+-- a request and the IV for the server's cipher, the server before and after it, and the answer
+abbrev pub Serves : Request → List ℕ → Server → Server → Answer → Type 0
+Serves (Insert id payload) iv old new answer.Duplicate = (has_stored old.documents id ≡ true) × (new ≡ old)
+Serves (Insert id payload) iv old new answer.Inserted = Adds iv old new id payload
+Serves (Find tokens) iv old new (answer.Found found) = (new ≡ old) × Finds old tokens found
+Serves (Ids tokens) iv old new (answer.Ids ids) = (new ≡ old) × FindsIds old tokens ids
+Serves _ iv old new _ = ⊥

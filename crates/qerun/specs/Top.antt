@@ -24,7 +24,7 @@ is_replay (word ∷ (other ∷ words)) = false
 pub record IsRun (taken text : List ℕ) : Type 0 where
   pub script : Script
   pub is_script : script_of taken ≡ Ok script
-  pub replies : NoClash script.header.field.key script.commands → text ≡ plain_text script.commands
+  pub replies : NoClash script.header.field.key script.commands → text ≡ plain_text script.header.field.path script.commands
 
 -- the text names the first line that isn't read
 pub record IsRefusal (taken text : List ℕ) : Type 0 where

@@ -3,12 +3,13 @@ use Rattle.std.specs.Prelude.{◌≡◌, ℕ, ◌+◌, ℤ, List, [], ◌∷◌,
 use Rattle.std.specs.Int.{w32, to_le_bytes, cast_unsigned}
 use Rattle.std.specs.Ordering.{int_eq}
 use Rattle.qe_script.specs.declared.script.Command.{Command}
-use Rattle.qe_script.specs.declared.script.Command.TheVariants.{Insert, Ids}
+use Rattle.qe_script.specs.declared.script.Command.TheVariants.{Insert, Find, Ids}
 use Rattle.qe_tokens.specs.Tokens.{root_key_of}
 use Rattle.qe_tokens.specs.Labels.{IsClashFree}
 use Rattle.qe_tokens.specs.declared.words.Word.{Word}
 use Rattle.qe_tokens.specs.declared.words.Word.TheVariants.{Item}
-use Rattle.qerun.specs.Plain.{Document, has_id, documents_after}
+use Rattle.qerun.specs.Plain.{has_id, documents_after}
+use Rattle.qerun.specs.declared.document.Document.{Document}
 
 -- an int32's item: its four bytes, the lowest first
 unfoldable pub item_of : ℤ → List ℕ
@@ -21,6 +22,7 @@ word_of value = Item 0 (item_of value) 0
 -- the values that a command indexes or asks for
 abbrev pub values_of : List Document → Command → List ℤ
 values_of documents (Insert id value) = if has_id documents id then [] else value ∷ []
+values_of documents (Find value) = value ∷ []
 values_of documents (Ids value) = value ∷ []
 
 abbrev pub values_from : List Document → List Command → List ℤ
@@ -30,6 +32,7 @@ values_from documents (command ∷ commands) = values_of documents command ++ va
 -- how often a command indexes a value: once, or not at all
 abbrev pub times_in : List Document → ℤ → Command → ℕ
 times_in documents value (Insert id other) = if has_id documents id then 0 else (if int_eq other value then 1 else 0)
+times_in documents value (Find other) = 0
 times_in documents value (Ids other) = 0
 
 abbrev pub times_from : List Document → ℤ → List Command → ℕ

@@ -1,55 +1,151 @@
-ghost use Rattle.std.specs.Prelude.{◌≡◌, ℕ, List};
+ghost use Rattle.std.specs.Prelude.{◌≡◌, IfOk};
+ghost use Rattle.qe_script.specs.declared.script.Header.{Header};
 ghost use Rattle.qerun.specs.Words.{item_of};
-ghost use Rattle.qerun.specs.Client.{IsKeyedBy, tokens_of, request_of};
+ghost use Rattle.qerun.specs.Client.{IsClientOf, HasBytes, IsSent, Sends, tokens_of};
+ghost use Rattle.qerun.specs.Opening.{Opens, int32_of, value_in, documents_in, reply_to};
 
-use crate::request::{Request, WordTokens};
-use qe_script::Command;
+use crate::answer::Answer;
+use crate::document::Document;
+use crate::draws::{Draws, SEALED_IV, SERVER_IV};
+use crate::opening::{OpenFault, int32};
+use crate::pieces::{are_bytes, is_block};
+use crate::reply::Reply;
+use crate::request::{Payload, Request, WordTokens};
+use crate::stored::{Stored, deciphered};
+use qe_base::{Bytes, Listing, NoMemory};
+use qe_script::{Command, Header};
+use qe_seal::{seal, unseal};
 use qe_tokens::{
-    EdcToken, EscToken, collections, edc, edc_contention, edc_derived, esc, esc_contention,
-    esc_derived, root_key,
+    EdcToken, EscToken, ServerDataLevel1, collections, edc, edc_contention, edc_derived, esc,
+    esc_contention, esc_derived, root_key, server_cipher,
 };
+use std::alloc::Global;
 
-/// The tokens of a field, from which those of its values grow.
+/// The client of one field. It holds the data key, seals values and opens them.
 #[derive(Clone, Copy)]
-pub struct FieldTokens {
+pub struct Client {
+    key: [u8; 96],
+    key_id: [u8; 16],
     edc: EdcToken,
     esc: EscToken,
+    cipher: ServerDataLevel1,
+    draws: Draws,
 }
 
-impl FieldTokens {
-    pub fn of(key: &[u8; 96]) -> FieldTokens
-        ensures { IsKeyedBy key.now result }
+impl Client {
+    /// The client that a script's header names.
+    pub fn new(header: &Header) -> Client
+        ensures client { IsClientOf header.now result }
+        ensures bytes { HasBytes header.now }
     {
-        let level = collections(&root_key(key));
-        FieldTokens {
+        let root = root_key(&header.field.key);
+        let level = collections(&root);
+        are_bytes(&header.field.key);
+        is_block(&header.field.key_id);
+        Client {
+            key: header.field.key,
+            key_id: header.field.key_id,
             edc: edc(&level),
             esc: esc(&level),
+            cipher: server_cipher(&root),
+            draws: Draws::of(&header.seed),
         }
     }
 
-    /// What is sent for a command.
-    pub fn request(&self, command: Command) -> Request
-        ensures { (key : List ℕ) → IsKeyedBy key self.now → result ≡ request_of key command }
+    /// What is sent for the command of this number.
+    pub fn request(
+        &self,
+        alloc: Global,
+        number: u64,
+        command: Command,
+    ) -> Result<Request, NoMemory>
+        ensures { IfOk result (λ request. (header : Header) → IsClientOf header self.now → Sends header number command request) }
     {
         match command {
-            Command::Insert { id, value } => Request::Insert {
-                id,
+            Command::Insert { id, value } => {
+                let payload = self.payload(alloc, number, &item(value))?;
+                Ok(Request::Insert { id, payload })
+            }
+            Command::Find { value } => Ok(Request::Find {
                 tokens: self.tokens(&item(value)),
-            },
-            Command::Ids { value } => Request::Ids {
+            }),
+            Command::Ids { value } => Ok(Request::Ids {
                 tokens: self.tokens(&item(value)),
-            },
+            }),
+        }
+    }
+
+    /// The IV for the server's cipher of the command of this number.
+    pub fn server_iv(&self, number: u64) -> [u8; 16] {
+        self.draws.iv(number, SERVER_IV)
+    }
+
+    /// The reply that an answer holds, each value opened.
+    pub fn reply(&self, alloc: Global, answer: Answer) -> Result<Reply, OpenFault>
+        ensures { (header : Header) → IsClientOf header self.now → Opens result (reply_to header answer) }
+    {
+        match answer {
+            Answer::Inserted => Ok(Reply::Inserted),
+            Answer::Duplicate => Ok(Reply::Duplicate),
+            Answer::Found(stored) => {
+                let documents = self.documents(alloc, stored.slice())?;
+                Ok(Reply::Found(documents))
+            }
+            Answer::Ids(ids) => Ok(Reply::Ids(ids)),
         }
     }
 
     // The tokens of an item's word, without contention.
     fn tokens(&self, item: &[u8]) -> WordTokens
-        ensures { (key : List ℕ) → IsKeyedBy key self.now → result ≡ tokens_of key item.now }
+        ensures { (header : Header) → IsClientOf header self.now → result ≡ tokens_of header.field.key item.now }
     {
         WordTokens {
             edc: edc_contention(&edc_derived(&self.edc, item), 0),
             esc: esc_contention(&esc_derived(&self.esc, item), 0),
         }
+    }
+
+    // What is sent of an item that is stored.
+    fn payload(&self, alloc: Global, number: u64, item: &[u8]) -> Result<Payload, NoMemory>
+        ensures { IfOk result (λ payload. (header : Header) → IsClientOf header self.now → IsSent header number item.now payload) }
+    {
+        let iv = self.draws.iv(number, SEALED_IV);
+        let sealed = seal(alloc, &self.key, &self.key_id, &iv, item)?;
+        let mut value = Bytes::from_slice(alloc, &self.key_id)?;
+        value.extend(sealed.slice())?;
+        Ok(Payload {
+            tokens: self.tokens(item),
+            cipher: self.cipher,
+            value,
+        })
+    }
+
+    // The documents that are stored.
+    fn documents(
+        &self,
+        alloc: Global,
+        stored: &[Stored],
+    ) -> Result<Listing<Document>, OpenFault>
+        ensures { (header : Header) → IsClientOf header self.now → Opens result (documents_in header stored.now) }
+    {
+        let mut documents = Listing::new(alloc);
+        for one in stored {
+            let value = self.open(alloc, one.value.slice())?;
+            documents.push(Document { id: one.id, value })?;
+        }
+        Ok(documents)
+    }
+
+    // The value that is stored.
+    fn open(&self, alloc: Global, stored: &[u8]) -> Result<i32, OpenFault>
+        ensures { (header : Header) → IsClientOf header self.now → Opens result (value_in header stored.now) }
+    {
+        let sent = deciphered(alloc, &self.cipher, stored)?;
+        let Some(sealed) = sent.as_slice().strip_prefix(self.key_id.as_slice()) else {
+            return Err(OpenFault::KeyDiffers);
+        };
+        let plain = unseal(alloc, &self.key, &self.key_id, sealed)?;
+        int32(plain.slice())
     }
 }
 

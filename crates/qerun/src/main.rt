@@ -4,11 +4,17 @@
 //! run, client, server; the definitions in `specs/` stand in the same order.
 #![tactic(auto)]
 
+mod answer;
 mod client;
+mod document;
+mod draws;
+mod opening;
+mod pieces;
 mod reply;
 mod request;
 mod run;
 mod server;
+mod stored;
 #[cfg(test)]
 mod tests;
 mod texts;

@@ -1,3 +1,4 @@
+use crate::document::Document;
 use qe_base::Listing;
 
 /// What a command is answered.
@@ -7,6 +8,8 @@ pub enum Reply {
     Inserted,
     /// A document with this id was there.
     Duplicate,
-    /// The ids of the documents found, in the order in which they were added.
+    /// The documents found, in the order in which they were added.
+    Found(Listing<Document>),
+    /// The ids of the documents found, in that order.
     Ids(Listing<i32>),
 }

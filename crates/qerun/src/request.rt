@@ -1,15 +1,27 @@
-use qe_tokens::{EdcContention, EscContention};
+use qe_base::Bytes;
+use qe_tokens::{EdcContention, EscContention, ServerDataLevel1};
 
-/// What the server is told of a value in its place: its tokens of documents and of rows.
+/// What the server is told of a value that is searched for: its tokens of documents and of rows.
 #[derive(Clone, Copy)]
 pub struct WordTokens {
     pub edc: EdcContention,
     pub esc: EscContention,
 }
 
+/// What stands in the place of a value that is stored.
+#[derive(Drop)]
+pub struct Payload {
+    pub tokens: WordTokens,
+    /// The key under which the server enciphers once more.
+    pub cipher: ServerDataLevel1,
+    /// The 16 bytes of the data key's number, and the sealed value.
+    pub value: Bytes,
+}
+
 /// What the client sends for a command.
-#[derive(Clone, Copy)]
+#[derive(Drop)]
 pub enum Request {
-    Insert { id: i32, tokens: WordTokens },
+    Insert { id: i32, payload: Payload },
+    Find { tokens: WordTokens },
     Ids { tokens: WordTokens },
 }

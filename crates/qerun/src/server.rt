@@ -1,20 +1,14 @@
-ghost use Rattle.std.specs.Prelude.{◌≡◌, ◌-◌, ◌^◌, ◌<◌, ◌↔◌, [], false, Contains, IsTrue, IfOk, OnOk};
+ghost use Rattle.std.specs.Prelude.{◌≡◌, ◌-◌, ◌^◌, ◌<◌, ◌↔◌, [], false, Contains, IsTrue, IfOk, OnOk, map};
 ghost use Rattle.std.specs.List.{list_any};
 ghost use Rattle.std.specs.Str.{bytes_eq};
-ghost use Rattle.qerun.specs.Server.{IsCount, Serves, Adds, Finds, has_stored, tags_to, ids_tagged};
+ghost use Rattle.qerun.specs.Server.{IsCount, Serves, Adds, Finds, FindsIds, has_stored, tags_to, tagged_among};
 
-use crate::reply::Reply;
-use crate::request::{Request, WordTokens};
-use qe_base::{Ids, Listing, NoMemory, Tags};
+use crate::answer::Answer;
+use crate::request::{Payload, Request, WordTokens};
+use crate::stored::{Stored, server_value};
+use qe_base::{Duplicate, Ids, Listing, NoMemory, Tags};
 use qe_tokens::{document_tag, edc_twice, esc_tag, position_id};
 use std::alloc::Global;
-
-/// A document as the server keeps it.
-#[derive(Clone, Copy)]
-pub struct Stored {
-    pub id: i32,
-    pub tag: [u8; 32],
-}
 
 /// The server's two collections: the position rows, and the documents in the order in which they were added.
 #[derive(Drop)]
@@ -34,45 +28,70 @@ impl Server {
         }
     }
 
-    /// Does what is asked, and answers it.
-    pub fn serve(&mut self, alloc: Global, request: &Request) -> Result<Reply, NoMemory>
-        ensures { IfOk result (Serves request.now self.old self.new) }
+    /// Does what is asked, and answers it. A value is enciphered once more, under this IV.
+    pub fn serve(
+        &mut self,
+        alloc: Global,
+        request: &Request,
+        iv: &[u8; 16],
+    ) -> Result<Answer, NoMemory>
+        ensures { IfOk result (Serves request.now iv.now self.old self.new) }
     {
         match request {
-            Request::Insert { id, tokens } => {
+            Request::Insert { id, payload } => {
                 if has_stored(self.documents.slice(), *id) {
-                    return Ok(Reply::Duplicate);
+                    return Ok(Answer::Duplicate);
                 }
-                self.add(*id, tokens)?;
-                Ok(Reply::Inserted)
+                self.add(alloc, *id, payload, iv)?;
+                Ok(Answer::Inserted)
+            }
+            Request::Find { tokens } => {
+                let found = self.find(alloc, tokens)?;
+                Ok(Answer::Found(found))
             }
             Request::Ids { tokens } => {
-                let ids = self.find(alloc, tokens)?;
-                Ok(Reply::Ids(ids))
+                let ids = self.find_ids(alloc, tokens)?;
+                Ok(Answer::Ids(ids))
             }
         }
     }
 
-    // Adds the next position of a word, and a document with that value's tag.
-    fn add(&mut self, id: i32, tokens: &WordTokens) -> Result<(), NoMemory>
+    // Adds the next position of a word, and a document with that value's tag and the value enciphered.
+    fn add(
+        &mut self,
+        alloc: Global,
+        id: i32,
+        payload: &Payload,
+        iv: &[u8; 16],
+    ) -> Result<(), NoMemory>
         requires { has_stored self.old.documents id ≡ false }
-        ensures { OnOk result (Adds self.old self.new id tokens.now) }
+        ensures { OnOk result (Adds iv.now self.old self.new id payload.now) }
     {
-        let number = count_positions(self.rows.slice(), tokens) + 1;
-        let row = position_id(&esc_tag(&tokens.esc), number);
-        let tag = document_tag(&edc_twice(&tokens.edc), number);
+        let number = count_positions(self.rows.slice(), &payload.tokens) + 1;
+        let row = position_id(&esc_tag(&payload.tokens.esc), number);
+        let tag = document_tag(&edc_twice(&payload.tokens.edc), number);
+        let value = server_value(alloc, &payload.cipher, iv, payload.value.slice())?;
         self.rows.push(row)?;
-        self.documents.push(Stored { id, tag })?;
+        self.documents.push(Stored { id, tag, value })?;
         Ok(())
     }
 
-    // The ids of the documents that have a tag of the word.
-    fn find(&self, alloc: Global, tokens: &WordTokens) -> Result<Listing<i32>, NoMemory>
-        ensures { IfOk result (Finds self.now self.now tokens.now) }
+    // The documents that have a tag of the word.
+    fn find(&self, alloc: Global, tokens: &WordTokens) -> Result<Listing<Stored>, NoMemory>
+        ensures { IfOk result (Finds self.now tokens.now) }
     {
         let number = count_positions(self.rows.slice(), tokens);
         let tags = tags_to(alloc, tokens, number)?;
-        let ids = ids_tagged(alloc, tags.slice(), self.documents.slice())?;
+        let found = tagged_among(alloc, tags.slice(), self.documents.slice())?;
+        Ok(found)
+    }
+
+    // The ids of these documents.
+    fn find_ids(&self, alloc: Global, tokens: &WordTokens) -> Result<Listing<i32>, NoMemory>
+        ensures { IfOk result (FindsIds self.now tokens.now) }
+    {
+        let found = self.find(alloc, tokens)?;
+        let ids = ids_of(alloc, found.slice())?;
         Ok(ids)
     }
 }
@@ -119,19 +138,29 @@ fn tags_to(alloc: Global, tokens: &WordTokens, count: u64) -> Result<Tags, NoMem
     Ok(tags)
 }
 
-// The ids of the documents that have one of these tags.
-fn ids_tagged(
+// The documents that have one of these tags.
+fn tagged_among(
     alloc: Global,
     tags: &[[u8; 32]],
     documents: &[Stored],
-) -> Result<Listing<i32>, NoMemory>
-    ensures { IfOk result (λ ids. ids ≡ ids_tagged tags.now documents.now) }
+) -> Result<Listing<Stored>, NoMemory>
+    ensures { IfOk result (λ found. found ≡ tagged_among tags.now documents.now) }
+{
+    let mut found = Listing::new(alloc);
+    for document in documents {
+        if has(tags, &document.tag) {
+            found.push(document.copy()?)?;
+        }
+    }
+    Ok(found)
+}
+
+fn ids_of(alloc: Global, documents: &[Stored]) -> Result<Listing<i32>, NoMemory>
+    ensures { IfOk result (λ ids. ids ≡ map (λ d. d.id) documents.now) }
 {
     let mut ids = Listing::new(alloc);
     for document in documents {
-        if has(tags, &document.tag) {
-            ids.push(document.id)?;
-        }
+        ids.push(document.id)?;
     }
     Ok(ids)
 }

@@ -74,7 +74,7 @@ fn refusals_print_their_lines(rt: HostRuntime) -> Result<(), Fail> {
         (&["make", "100", "7"], FIRST, Status::BadWords, usage),
         (
             &["replay"],
-            b"\n{\"do\":\"find\",\"filter\":{\"age\":5}}",
+            b"\n{\"do\":\"delete\",\"filter\":{\"age\":5}}",
             Status::BadScript,
             b"bad line 3 NotBuilt\n",
         ),

@@ -1,37 +1,85 @@
-ghost use Rattle.std.specs.Prelude.{◌≡◌, ◌++◌, IfOk, OnOk};
-ghost use Rattle.qerun.specs.Text.{reply_line, ids_text, replies_text, bad_line_text, too_long_text, usage_text};
+ghost use Rattle.std.specs.Prelude.{◌≡◌, ◌++◌, string_bytes, IfOk, OnOk};
+ghost use Rattle.serde_json.specs.View.{view};
+ghost use Rattle.serde_json.specs.Written.{compact_text};
+ghost use Rattle.qerun.specs.Text.{reply_line, found_line, ids_line, document_data, documents_text, ids_text, replies_text, bad_line_text, too_long_text, usage_text};
 
+use crate::document::Document;
 use crate::reply::Reply;
 use qe_base::{Bytes, NoMemory};
-use std::alloc::Global;
+use serde_json::{Value, json};
+use std::alloc::{AllocError, Global};
 
-/// The lines of the replies.
+/// The lines of the replies. The path is the name of the field.
 #[tactic(auto, unfolding(crate::specs::Text::replies_text))]
-pub fn replies_text(alloc: Global, replies: &[Reply]) -> Result<Bytes, NoMemory>
-    ensures { IfOk result (λ text. text ≡ replies_text replies.now) }
+pub fn replies_text(alloc: Global, path: &str, replies: &[Reply]) -> Result<Bytes, NoMemory>
+    ensures { IfOk result (λ text. text ≡ replies_text path.now replies.now) }
 {
     let mut text = Bytes::new(alloc);
     for reply in replies {
-        add_line(alloc, &mut text, reply)?;
+        add_line(alloc, &mut text, path, reply)?;
     }
     Ok(text)
 }
 
 #[tactic(auto, unfolding(crate::specs::Text::reply_line))]
-fn add_line(alloc: Global, text: &mut Bytes, reply: &Reply) -> Result<(), NoMemory>
-    ensures { OnOk result (text.new ≡ text.old ++ reply_line reply.now) }
+fn add_line(alloc: Global, text: &mut Bytes, path: &str, reply: &Reply) -> Result<(), NoMemory>
+    ensures { OnOk result (text.new ≡ text.old ++ reply_line path.now reply.now) }
 {
     match reply {
         Reply::Inserted => text.extend(b"inserted\n")?,
         Reply::Duplicate => text.extend(b"duplicate\n")?,
+        Reply::Found(documents) => add_found(alloc, text, path, documents.slice())?,
         Reply::Ids(ids) => add_ids(alloc, text, ids.slice())?,
     }
     Ok(())
 }
 
-#[tactic(auto, unfolding(crate::specs::Text::reply_line))]
+fn add_found(
+    alloc: Global,
+    text: &mut Bytes,
+    path: &str,
+    documents: &[Document],
+) -> Result<(), NoMemory>
+    ensures { OnOk result (text.new ≡ text.old ++ found_line path.now documents.now) }
+{
+    let count = documents.len();
+    let head = format!(in alloc; "found {count}")?;
+    let found = documents_text(alloc, path, documents)?;
+    text.extend(head.as_bytes())?;
+    text.extend(found.slice())?;
+    text.extend(b"\n")?;
+    Ok(())
+}
+
+// Each document's JSON behind a space.
+fn documents_text(alloc: Global, path: &str, documents: &[Document]) -> Result<Bytes, NoMemory>
+    ensures { IfOk result (λ text. text ≡ documents_text path.now documents.now) }
+{
+    let mut text = Bytes::new(alloc);
+    for document in documents {
+        let json = document_text(alloc, path, document)?;
+        text.extend(b" ")?;
+        text.extend(json.as_bytes())?;
+    }
+    Ok(text)
+}
+
+fn document_text(alloc: Global, path: &str, document: &Document) -> Result<String, AllocError>
+    ensures { IfOk result (λ text. string_bytes text ≡ compact_text (document_data path.now document.now)) }
+{
+    let json = document_json(alloc, path, document)?;
+    json.to_string(alloc)
+}
+
+#[tactic(auto, unfolding(crate::specs::Text::document_data))]
+fn document_json(alloc: Global, path: &str, document: &Document) -> Result<Value, AllocError>
+    ensures { IfOk result (λ json. view json ≡ document_data path.now document.now) }
+{
+    json!(in alloc; {"_id": document.id, (path): document.value})
+}
+
 fn add_ids(alloc: Global, text: &mut Bytes, ids: &[i32]) -> Result<(), NoMemory>
-    ensures { OnOk result (text.new ≡ text.old ++ reply_line (Reply.Ids ids.now)) }
+    ensures { OnOk result (text.new ≡ text.old ++ ids_line ids.now) }
 {
     let ids = ids_text(alloc, ids)?;
     text.extend(b"ids")?;

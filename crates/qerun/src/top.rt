@@ -146,8 +146,9 @@ fn due_for(alloc: Global, taken: &[u8]) -> Result<Due, NoMemory>
 {
     match read_script(alloc, taken) {
         Ok(script) => {
-            let replies = run(alloc, &script.header.field.key, script.commands.slice())?;
-            let text = replies_text(alloc, replies.slice())?;
+            let replies = run(alloc, &script.header, script.commands.slice())?;
+            let path = script.header.field.path.as_str();
+            let text = replies_text(alloc, path, replies.slice())?;
             Ok(Due {
                 status: Status::Done,
                 text,

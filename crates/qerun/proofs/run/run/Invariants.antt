@@ -1,9 +1,12 @@
 use Rattle.std.proofs.Common.{drop}
-use Rattle.qerun.specs.Client.{IsKeyedBy}
+use Rattle.qerun.specs.Client.{IsClientOf}
 use Rattle.qerun.specs.Words.{NoClash}
 use Rattle.qerun.proofs.RunLemmas.{Reached}
+use Rattle.qerun.proofs.ValueLemmas.{AllOpen}
 use Rattle.qerun.proofs.run.run.Given as goal
 
 abbrev pub invariant-loop-command : goal.invariant-loop-command
 invariant-loop-command l =
-    IsKeyedBy l.key l.field × (NoClash l.key l.commands → Reached l.key l.commands (drop l.command-index l.commands) l.replies l.server)
+    IsClientOf l.header l.client
+    × AllOpen l.header l.server.documents
+    × (NoClash l.header.field.key l.commands → Reached l.header l.commands (drop l.command-index l.commands) l.replies l.server)

@@ -5,7 +5,7 @@ use Rattle.qe_tokens.specs.declared.tokens.EdcContention.{EdcContention}
 use Rattle.qe_tokens.specs.declared.tokens.EscContention.{EscContention}
 use Rattle.qerun.specs.declared.request.WordTokens.{WordTokens}
 use Rattle.qerun.specs.Client.{tokens_of, edc_token, esc_token}
-use Rattle.qerun.proofs.client.FieldTokens.tokens.Goals as goal
+use Rattle.qerun.proofs.client.Client.tokens.Goals as goal
 
 -- a word's two tokens, each from its field's
 tokens_of-made : (key item : List ℕ) (edc : EdcContention) (esc : EscContention)
@@ -15,8 +15,8 @@ unfolding tokens_of row_token tag_token
 tokens_of-made key item edc esc of_documents of_rows = rw (← of_documents, ← of_rows)
 
 pub returns : goal.returns
-returns c key keyed =
-    tokens_of-made key c.args.item.now c.edc_contention.result c.esc_contention.result
+returns c header keyed =
+    tokens_of-made header.field.key c.args.item.now c.edc_contention.result c.esc_contention.result
     (c.edc_contention.ensures ∙ ap (λ derived. edc_contention_of derived 0)
     (c.edc_derived.ensures ∙ ap (λ token. edc_derived_of token c.args.item.now) keyed.edc))
     (c.esc_contention.ensures ∙ ap (λ derived. esc_contention_of derived 0)

@@ -1,0 +1,89 @@
+-- Values that are opened one after another.
+use Rattle.std.proofs.Common.{◌≡◌, ℕ, ℤ, List, [], ◌∷◌, ◌++◌, take, drop, Bool, true, false, cond, Result, Ok, Err, refl, sym, ap, ◌∙◌, append_assoc, append-nil}
+use Rattle.std.specs.Str.{bytes_eq}
+use Rattle.qe_script.specs.declared.script.Header.{Header}
+use Rattle.qe_seal.specs.Sealed.{opened_value, AnswersSeal}
+use Rattle.qe_seal.specs.declared.sealed.SealFault.{SealFault}
+use Rattle.qe_seal.specs.declared.sealed.SealFault.TheVariants as seal
+use Rattle.qe_tokens.specs.Tokens.{root_key_of, server_cipher_of}
+use Rattle.qerun.specs.Opening.{on_ok, Opens, seal_refusal, unsealed, value_sent, value_in, documents_in}
+use Rattle.qerun.specs.Stored.{deciphered}
+use Rattle.qerun.specs.declared.document.Document.{Document}
+use Rattle.qerun.specs.declared.opening.OpenFault.{OpenFault}
+use Rattle.qerun.specs.declared.opening.OpenFault.TheVariants.{KeyDiffers, Seal, NotInt32, NoMemory}
+use Rattle.qerun.specs.declared.stored.Stored.{Stored}
+
+-- the answer that is due is given
+pub opens : {A : Type 0} (answer due : Result A OpenFault) → answer ≡ due → Opens answer due
+opens (Ok x) due e = e
+opens (Err KeyDiffers) due e = e
+opens (Err (Seal fault)) due e = e
+opens (Err NotInt32) due e = e
+opens (Err NoMemory) due e = tt
+
+-- a fault is passed on, want of memory too
+pub opens_on : {A B : Type 0} (fault : OpenFault) (inner : Result A OpenFault) (due : Result B OpenFault) → Opens (Err fault) inner
+    → (inner ≡ Err fault → Err fault ≡ due) → Opens (Err fault) due
+opens_on KeyDiffers inner due given on = on (sym given)
+opens_on (Seal fault) inner due given on = on (sym given)
+opens_on NotInt32 inner due given on = on (sym given)
+opens_on NoMemory inner due given on = tt
+
+-- where an answer is due, want of memory alone refuses it
+pub only_memory : {A : Type 0} (fault : OpenFault) (due : Result A OpenFault) (value : A) → Opens (Err fault) due → due ≡ Ok value → fault ≡ NoMemory
+only_memory KeyDiffers due value given is = cc
+only_memory (Seal fault) due value given is = cc
+only_memory NotInt32 due value given is = cc
+only_memory NoMemory due value given is = refl
+
+-- a refused seal is passed on
+pub opens_seal : (fault : SealFault) (inner : Result (List ℕ) SealFault) → AnswersSeal (Err fault) inner → Opens (Err (seal_refusal fault)) (unsealed inner)
+opens_seal seal.TooShort inner given = ap unsealed given
+opens_seal (seal.MacDiffers want got) inner given = ap unsealed given
+opens_seal seal.BadLength inner given = ap unsealed given
+opens_seal seal.BadPadding inner given = ap unsealed given
+opens_seal seal.NoMemory inner given = tt
+
+-- what a client reads of a stored value, by what it has deciphered
+pub value_in-sent : (header : Header) (key key_id cipher stored sent : List ℕ) → key ≡ header.field.key → key_id ≡ header.field.key_id
+    → cipher ≡ server_cipher_of (root_key_of header.field.key) → sent ≡ deciphered cipher stored
+    → value_in header stored ≡ value_sent key key_id sent
+unfolding value_in
+value_in-sent header key key_id cipher stored sent same_key same_id same_cipher is_sent = rw (is_sent, same_key, same_id, same_cipher)
+
+pub value_sent-other : (key key_id sent : List ℕ) → bytes_eq (take 16 sent) key_id ≡ false → value_sent key key_id sent ≡ Err KeyDiffers
+value_sent-other key key_id sent differs = rw differs
+
+pub value_sent-own : (key key_id sent : List ℕ) → bytes_eq (take 16 sent) key_id ≡ true
+    → value_sent key key_id sent ≡ unsealed (opened_value key key_id (drop 16 sent))
+value_sent-own key key_id sent same = rw same
+
+-- the documents that are opened, and then those left
+abbrev pub behind : List Document → Result (List Document) OpenFault → Result (List Document) OpenFault
+behind done left = on_ok (λ documents. Ok (done ++ documents)) left
+
+pub behind-nothing : (left : Result (List Document) OpenFault) → behind [] left ≡ left
+behind-nothing (Ok documents) = refl
+behind-nothing (Err fault) = refl
+
+pub behind-all : (header : Header) (done : List Document) (left : List Stored) → left ≡ [] → behind done (documents_in header left) ≡ Ok done
+unfolding documents_in
+behind-all header done left none = rw none (ap Ok (append-nil done))
+
+push_behind : (done : List Document) (one : Document) (left : Result (List Document) OpenFault)
+    → behind (done ++ one ∷ []) left ≡ behind done (on_ok (λ documents. Ok (one ∷ documents)) left)
+push_behind done one (Ok documents) = ap Ok (append_assoc done (one ∷ []) documents)
+push_behind done one (Err fault) = refl
+
+-- one more document is opened
+pub behind-one : (header : Header) (done : List Document) (stored rest : List Stored) (one : Stored) (value : ℤ) → stored ≡ one ∷ rest
+    → Ok value ≡ value_in header one.value
+    → behind (done ++ record { id = one.id; value = value } ∷ []) (documents_in header rest) ≡ behind done (documents_in header stored)
+unfolding documents_in
+behind-one header done stored rest one value first is_value = rw (first, ← is_value) (push_behind done _ (documents_in header rest))
+
+-- the first fault is the answer
+pub behind-fault : (header : Header) (done : List Document) (stored rest : List Stored) (one : Stored) (fault : OpenFault) → stored ≡ one ∷ rest
+    → value_in header one.value ≡ Err fault → Err fault ≡ behind done (documents_in header stored)
+unfolding documents_in
+behind-fault header done stored rest one fault first is_fault = rw (first, is_fault)
