@@ -1,5 +1,10 @@
+use crate::documents::{decoded, encoded, mixed, nested};
+use hex::FromHex;
 use qe_aes::Aes256;
-use qe_seal::hmac;
+use qe_base::NoMemory;
+use qe_bson::Document;
+use qe_seal::{hmac, seal};
+use std::alloc::Global;
 
 /// What is done many times over.
 #[derive(Clone, Copy, Debug, PartialEq, Eq)]
@@ -12,6 +17,27 @@ pub enum Work {
     Schedule,
     /// HMAC of 32 bytes under a key of 32 bytes.
     Hmac,
+    /// The sealed value of 4 bytes.
+    Seal,
+    /// Reading and writing a document of 1,000 mixed fields, and one of 100 levels.
+    Bson,
+    /// Reading the document of 1,000 mixed fields.
+    Decode,
+    /// Writing it.
+    Encode,
+    /// Reading the document of 100 levels.
+    DecodeNested,
+    /// Writing it.
+    EncodeNested,
+}
+
+/// What so many turns give.
+#[derive(Clone, Copy)]
+pub struct Outcome {
+    /// The last 16 bytes of the last result.
+    pub last: [u8; 16],
+    /// The number of bytes that a turn takes in.
+    pub bytes: usize,
 }
 
 impl Work {
@@ -22,19 +48,55 @@ impl Work {
             "ctr" => Some(Work::Ctr),
             "schedule" => Some(Work::Schedule),
             "hmac" => Some(Work::Hmac),
+            "seal" => Some(Work::Seal),
+            "bson" => Some(Work::Bson),
+            "decode" => Some(Work::Decode),
+            "encode" => Some(Work::Encode),
+            "decode_nested" => Some(Work::DecodeNested),
+            "encode_nested" => Some(Work::EncodeNested),
             _ => None,
         }
     }
 }
 
-/// The last 16 bytes that so many turns give, each from those of the turn before.
-pub fn turned(work: Work, turns: u64) -> [u8; 16] {
+/// What so many turns of a work give.
+pub fn turned(alloc: Global, work: Work, turns: u64) -> Result<Outcome, NoMemory> {
     match work {
-        Work::Aes => aes(turns),
-        Work::Ctr => ctr(turns),
-        Work::Schedule => schedule(turns),
-        Work::Hmac => macs(turns),
+        Work::Aes => Ok(ended(aes(turns), 16)),
+        Work::Ctr => Ok(ended(ctr(turns), 4096)),
+        Work::Schedule => Ok(ended(schedule(turns), 32)),
+        Work::Hmac => Ok(ended(macs(turns), 32)),
+        Work::Seal => Ok(ended(seals(alloc, turns)?, 4)),
+        Work::Bson => {
+            both(alloc, mixed(alloc)?, turns)?;
+            both(alloc, nested(alloc)?, turns)
+        }
+        Work::Decode => decoded(alloc, &mixed(alloc)?, turns),
+        Work::Encode => encoded(alloc, &mixed(alloc)?, turns),
+        Work::DecodeNested => decoded(alloc, &nested(alloc)?, turns),
+        Work::EncodeNested => encoded(alloc, &nested(alloc)?, turns),
     }
+}
+
+/// The cipher of a block under a key, which the hex digits are, one behind the other.
+pub fn ciphered(digits: &str) -> Option<Outcome> {
+    let bytes = <[u8; 48] as FromHex>::from_hex(digits).ok()?;
+    Some(ended(cipher(&bytes), bytes.len()))
+}
+
+fn cipher(bytes: &[u8; 48]) -> [u8; 16] {
+    let mut key = [0; 32];
+    key.copy_from_slice(&bytes[..32]);
+    Aes256::new(&key).encrypt(last_block(bytes))
+}
+
+fn ended(last: [u8; 16], bytes: usize) -> Outcome {
+    Outcome { last, bytes }
+}
+
+fn both(alloc: Global, document: Document, turns: u64) -> Result<Outcome, NoMemory> {
+    decoded(alloc, &document, turns)?;
+    encoded(alloc, &document, turns)
 }
 
 // The key 00 to 1f.
@@ -87,6 +149,22 @@ fn macs(turns: u64) -> [u8; 16] {
     last_block(&mac)
 }
 
-fn last_block(bytes: &[u8]) -> [u8; 16] {
+// Each value is sealed under the last 16 bytes of the one before.
+fn seals(alloc: Global, turns: u64) -> Result<[u8; 16], NoMemory> {
+    let mut key = [0; 96];
+    for i in 0u8..96 {
+        key[i as usize] = i;
+    }
+    let mut iv = [0; 16];
+    for _ in 0..turns {
+        let sealed = seal(alloc, &key, &[1; 16], &iv, &5i32.to_le_bytes())?;
+        let next = last_block(sealed.slice());
+        iv = next;
+    }
+    Ok(iv)
+}
+
+/// The last 16 bytes, or zeros where there are fewer.
+pub fn last_block(bytes: &[u8]) -> [u8; 16] {
     bytes.last_chunk::<16>().copied().unwrap_or([0; 16])
 }

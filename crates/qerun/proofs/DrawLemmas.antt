@@ -1,5 +1,5 @@
 -- The bytes of random words.
-use Rattle.std.proofs.Common.{◌≡◌, ◌<◌, ◌+◌, ◌/◌, ◌%◌, ℕ, List, [], ◌∷◌, ◌++◌, length, get_or, refl, arith}
+use Rattle.std.proofs.Common.{◌≡◌, ◌<◌, ◌+◌, ◌/◌, ◌%◌, ℕ, List, [], ◌∷◌, ◌++◌, get_or, refl, arith}
 use Rattle.std.specs.Int.{w32, to_le_bytes}
 use Rattle.qe_aes.specs.Laws.{AreBytes, IsBlock}
 use Rattle.qe_aes.proofs.ByteLemmas.{AreBytes-nil, AreBytes-cons, AreBytes-append}

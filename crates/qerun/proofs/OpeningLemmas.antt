@@ -1,5 +1,5 @@
 -- Values that are opened one after another.
-use Rattle.std.proofs.Common.{◌≡◌, ℕ, ℤ, List, [], ◌∷◌, ◌++◌, take, drop, Bool, true, false, cond, Result, Ok, Err, refl, sym, ap, ◌∙◌, append_assoc, append-nil}
+use Rattle.std.proofs.Common.{◌≡◌, ℕ, ℤ, List, [], ◌∷◌, ◌++◌, take, drop, true, false, Result, Ok, Err, refl, sym, ap, append_assoc, append-nil}
 use Rattle.std.specs.Str.{bytes_eq}
 use Rattle.qe_script.specs.declared.script.Header.{Header}
 use Rattle.qe_seal.specs.Sealed.{opened_value, AnswersSeal}

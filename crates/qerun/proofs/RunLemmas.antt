@@ -1,9 +1,9 @@
 -- A run, command by command: the server stands for the plain collection, and the replies are the plain ones.
-use Rattle.std.proofs.Common.{◌≡◌, ◌⊎◌, inl, inr, zero-add, ◌≤◌, ◌<◌, ℕ, zero, suc, ◌+◌, ◌-◌, ◌^◌, ℤ, List, [], ◌∷◌, ◌++◌, length, Bool, true, false, cond, Result, Ok, Err, refl, sym, ap, ◌∙◌, arith, subst, append_assoc, append-nil, drop, get_or}
+use Rattle.std.proofs.Common.{◌≡◌, ◌⊎◌, inl, inr, zero-add, ◌≤◌, ◌<◌, ℕ, zero, suc, ◌+◌, ◌-◌, ◌^◌, ℤ, List, [], ◌∷◌, ◌++◌, length, Bool, true, false, cond, Ok, refl, sym, ap, ◌∙◌, arith, subst, append_assoc, append-nil, drop, get_or}
 use Rattle.std.proofs.lemmas.List.{drop_more}
 use Rattle.std.proofs.lemmas.List.Elements.{Contains-append_right, Contains-append_cases}
 use Rattle.std.specs.Ordering.{int_eq}
-use Rattle.std.specs.Prelude.{Contains, FitsSigned, filter, map}
+use Rattle.std.specs.Prelude.{Contains, FitsSigned, map}
 use Rattle.std.specs.Int.{w32}
 use Rattle.qe_script.specs.declared.script.Command.{Command}
 use Rattle.qe_script.specs.declared.script.Header.{Header}
@@ -18,15 +18,14 @@ use Rattle.qerun.specs.declared.request.WordTokens.{WordTokens}
 use Rattle.qerun.specs.declared.answer.Answer.{Answer}
 use Rattle.qerun.specs.declared.answer.Answer.TheVariants as answer
 use Rattle.qerun.specs.declared.document.Document.{Document}
-use Rattle.qerun.specs.declared.opening.OpenFault.{OpenFault}
 use Rattle.qerun.specs.declared.stored.Stored.{Stored}
 use Rattle.qerun.specs.declared.server.Server.{Server}
 use Rattle.qerun.specs.Client.{HasBytes, Sends, IsSent, tokens_of}
 use Rattle.qerun.specs.Opening.{on_ok, reply_to, value_in, documents_in}
-use Rattle.qerun.specs.Plain.{has_id, matching, documents_after, plain_reply, replies_from, plain_replay}
+use Rattle.qerun.specs.Plain.{has_id, matching, documents_after, replies_from, plain_replay}
 use Rattle.qerun.specs.Server.{Serves, Adds, Finds, FindsIds, has_stored, tagged_among, tags_to}
 use Rattle.qerun.specs.Stored.{server_value}
-use Rattle.qerun.specs.Words.{item_of, NoClash, values_of, values_from, times_in, times_from}
+use Rattle.qerun.specs.Words.{item_of, NoClash, values_of, values_from, times_from}
 use Rattle.qerun.proofs.ApartLemmas.{IsMet, total}
 use Rattle.qerun.proofs.StandsLemmas.{StandsFor, StandForAll, count_is, found_stand, ids_are_plain, opened_are_plain, has_stored_is}
 use Rattle.qerun.proofs.StepLemmas.{raised, stands_added}
@@ -162,7 +161,7 @@ reached_found header commands rest replies old new v found one clear short reach
     let is_met : IsMet commands v = reached.met v (0, omega arith, refl) in
     let opened : documents_in header found ≡ Ok (matching reached.documents v) =
     opened_are_plain header commands reached.n (matching reached.documents v) found
-        (search_finds header commands rest replies old v Find found clear short reached is_met finds) in
+    (search_finds header commands rest replies old v Find found clear short reached is_met finds) in
     let both : Ok one ≡ Ok (reply.Found (matching reached.documents v)) =
     is_reply ∙ ap (on_ok (λ documents. Ok (reply.Found documents))) opened in
     let plain : one ≡ reply.Found (matching reached.documents v) = cc in
@@ -185,7 +184,7 @@ reached_ids header commands rest replies old new v ids one clear short reached s
     let is_met : IsMet commands v = reached.met v (0, omega arith, refl) in
     let named : ids ≡ map (λ d. d.id) (matching reached.documents v) =
     finds.named ∙ ids_are_plain header commands reached.n (matching reached.documents v) finds.found
-        (search_finds header commands rest replies old v Ids finds.found clear short reached is_met finds.finds) in
+    (search_finds header commands rest replies old v Ids finds.found clear short reached is_met finds.finds) in
     let both : one ≡ reply.Ids ids = cc in
     let plain : one ≡ reply.Ids (map (λ d. d.id) (matching reached.documents v)) = both ∙ ap reply.Ids named in
     record {

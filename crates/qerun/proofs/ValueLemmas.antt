@@ -1,8 +1,7 @@
 -- What the client sealed and the server enciphered, the client opens.
-use Rattle.std.proofs.Common.{◌≡◌, ◌<◌, ◌^◌, ℕ, ℤ, List, [], ◌∷◌, ◌++◌, length, take, drop, Bool, true, false, cond, Result, Ok, Err, refl, sym, ap, ◌∙◌, subst}
+use Rattle.std.proofs.Common.{◌≡◌, ◌<◌, ◌^◌, ℕ, ℤ, List, [], ◌∷◌, ◌++◌, length, take, drop, Bool, true, false, cond, Ok, refl, sym, ap, ◌∙◌}
 use Rattle.std.specs.Prelude.{filter, FitsSigned}
-use Rattle.std.specs.Int.{w32, cast_signed, cast_unsigned, from_le_bytes}
-use Rattle.std.specs.Str.{bytes_eq}
+use Rattle.std.specs.Int.{w32, cast_signed, cast_unsigned}
 use Rattle.std.proofs.lemmas.Int.{to_z-of_z}
 use Rattle.std.proofs.Math.Facts.{Fits-of_z, Fits-lt-pow}
 use Rattle.std.proofs.lemmas.List.{take_at, drop_at}
@@ -16,11 +15,10 @@ use Rattle.qe_seal.specs.Sealed.{opened_value}
 use Rattle.qe_seal.proofs.SealLawLemmas.{opened_value-Seals}
 use Rattle.qerun.specs.Client.{HasBytes, IsSent}
 use Rattle.qerun.specs.Draws.{draws_key}
-use Rattle.qerun.specs.Opening.{on_ok, int32_of, unsealed, value_in, documents_in}
+use Rattle.qerun.specs.Opening.{int32_of, unsealed, value_in, documents_in}
 use Rattle.qerun.specs.Stored.{server_value, deciphered}
 use Rattle.qerun.specs.Words.{item_of}
 use Rattle.qerun.specs.declared.document.Document.{Document}
-use Rattle.qerun.specs.declared.opening.OpenFault.{OpenFault}
 use Rattle.qerun.specs.declared.request.Payload.{Payload}
 use Rattle.qerun.specs.declared.stored.Stored.{Stored}
 use Rattle.qerun.proofs.DrawLemmas.{IsBlock-iv_at, AreBytes-word}

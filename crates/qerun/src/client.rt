@@ -53,12 +53,7 @@ impl Client {
     }
 
     /// What is sent for the command of this number.
-    pub fn request(
-        &self,
-        alloc: Global,
-        number: u64,
-        command: Command,
-    ) -> Result<Request, NoMemory>
+    pub fn request(&self, alloc: Global, number: u64, command: Command) -> Result<Request, NoMemory>
         ensures { IfOk result (λ request. (header : Header) → IsClientOf header self.now → Sends header number command request) }
     {
         match command {
@@ -121,11 +116,7 @@ impl Client {
     }
 
     // The documents that are stored.
-    fn documents(
-        &self,
-        alloc: Global,
-        stored: &[Stored],
-    ) -> Result<Listing<Document>, OpenFault>
+    fn documents(&self, alloc: Global, stored: &[Stored]) -> Result<Listing<Document>, OpenFault>
         ensures { (header : Header) → IsClientOf header self.now → Opens result (documents_in header stored.now) }
     {
         let mut documents = Listing::new(alloc);

@@ -13,11 +13,7 @@ use std::alloc::Global;
 
 /// Runs the commands of one client on a new server, and answers their replies: those of the plain collection, where
 /// no two labels of the run share an identifier.
-pub fn run(
-    alloc: Global,
-    header: &Header,
-    commands: &[Command],
-) -> Result<Listing<Reply>, NoMemory>
+pub fn run(alloc: Global, header: &Header, commands: &[Command]) -> Result<Listing<Reply>, NoMemory>
     requires { AllInt32 commands.now }
     ensures { IfOk result (λ replies. NoClash header.now.field.key commands.now → replies ≡ plain_replay commands.now) }
 {

@@ -1,5 +1,13 @@
+use crate::answer::Answer;
+use crate::client::Client;
+use crate::opening::OpenFault;
+use crate::reply::Reply;
+use crate::request::Request;
+use crate::stored::{Stored, server_value};
 use crate::top::replay;
-use qe_base::{Bytes, MemorySink, MemorySource, Status};
+use qe_base::{Bytes, Listing, MemorySink, MemorySource, Status};
+use qe_script::{Command, read_script};
+use qe_seal::SealFault;
 use std::alloc::Global;
 use std::test::Fail;
 
@@ -40,6 +48,100 @@ fn the_first_script_prints_its_replies(rt: HostRuntime) -> Result<(), Fail> {
     let (status, text) = played(rt.alloc(), &["replay"], FIRST, &[], 99)?;
     assert_eq!(rt; status, Status::Done);
     assert_eq!(rt; text.as_slice(), REPLIES);
+    Ok(())
+}
+
+#[test]
+fn a_find_prints_what_was_inserted(rt: HostRuntime) -> Result<(), Fail> {
+    let lines = b"{\"do\":\"insert\",\"doc\":{\"_id\":1,\"age\":5}}
+{\"do\":\"insert\",\"doc\":{\"_id\":-2147483648,\"age\":-1}}
+{\"do\":\"insert\",\"doc\":{\"_id\":7,\"age\":5}}
+{\"do\":\"find\",\"filter\":{\"age\":5}}
+{\"do\":\"find\",\"filter\":{\"age\":6}}
+{\"do\":\"find\",\"filter\":{\"age\":-1}}";
+    let (status, text) = played(rt.alloc(), &["replay"], lines, &[], 999)?;
+    assert_eq!(rt; status, Status::Done);
+    assert_eq!(rt;
+        text.as_slice(),
+        b"inserted\ninserted\ninserted\nfound 2 {\"_id\":1,\"age\":5} {\"_id\":7,\"age\":5}\nfound 0\nfound 1 {\"_id\":-2147483648,\"age\":-1}\n".as_slice()
+    );
+    Ok(())
+}
+
+// What the fourth command of the first script's client would send and the server keep of age 5, by Python's
+// `cryptography` after RFC 8439, SP 800-38A and RFC 2104.
+const SENT: &str =
+    "000000000000400080000000000000016dc37be2cf2c03c9a3e036d1b3af8e3116da5d9f83d308f1ba07cd4fe3efd05b341a24b0f11e78e493849094e01100787e320cf383b17ffeb3afc54d91e427d3";
+
+const KEPT: &str =
+    "9bc77aa578459cd825efda590111798c9b6166faf586450996072424f19f50bd542d17cad10a38f4ee494a5711b312a2b9201074d351b86ba19e81a9d9e4303b579bb87ee4e9d840ec3c9ec856b858bdad148cc3b31fdb9ca962b869579ad327";
+
+fn first_client(alloc: Global) -> Result<Client, Fail> {
+    match read_script(alloc, HEADER) {
+        Ok(script) => Ok(Client::new(&script.header)),
+        Err(_) => Err("no script")?,
+    }
+}
+
+#[test]
+fn a_value_is_sealed_and_kept_as_another_program_does(rt: HostRuntime) -> Result<(), Fail> {
+    let alloc = rt.alloc();
+    let client = first_client(alloc)?;
+    let command = Command::Insert { id: 1, value: 5 };
+    let Ok(Request::Insert { payload, .. }) = client.request(alloc, 3, command) else {
+        return Err("no payload")?;
+    };
+    assert_eq!(rt; hex::encode(alloc, payload.value.slice())?.as_str(), SENT);
+    let kept = server_value(
+        alloc,
+        &payload.cipher,
+        &client.server_iv(3),
+        payload.value.slice(),
+    )
+    .map_err(|_| "no memory")?;
+    assert_eq!(rt; hex::encode(alloc, kept.slice())?.as_str(), KEPT);
+    Ok(())
+}
+
+// The reply to an answer of one document, whose value is the kept one with one byte changed, or its first bytes.
+fn opened(alloc: Global, length: usize, changed: usize) -> Result<Result<i32, OpenFault>, Fail> {
+    let mut value = hex::decode(alloc, KEPT)?;
+    value.truncate(length);
+    if let Some(byte) = value.get_mut(changed) {
+        *byte ^= 1;
+    }
+    let value = Bytes::from_vec(alloc, value);
+    let mut found = Listing::new(alloc);
+    let tag = [0; 32];
+    found
+        .push(Stored { id: 1, tag, value })
+        .map_err(|_| "no memory")?;
+    match first_client(alloc)?.reply(alloc, Answer::Found(found)) {
+        Ok(Reply::Found(documents)) => Ok(Ok(documents.slice().first().map_or(0, |one| one.value))),
+        Ok(_) => Err("another reply")?,
+        Err(fault) => Ok(Err(fault)),
+    }
+}
+
+#[test]
+fn a_changed_value_is_not_opened(rt: HostRuntime) -> Result<(), Fail> {
+    let alloc = rt.alloc();
+    assert_eq!(rt; opened(alloc, 96, 96)?, Ok(5));
+    for (length, changed) in [(96, 16), (31, 96), (16, 96), (3, 96), (0, 96)] {
+        assert_eq!(rt; opened(alloc, length, changed)?, Err(OpenFault::KeyDiffers));
+    }
+    for changed in [32, 63, 95] {
+        assert!(rt;
+            matches!(
+                opened(alloc, 96, changed)?,
+                Err(OpenFault::Seal(SealFault::MacDiffers { .. }))
+            )
+        );
+    }
+    assert_eq!(rt;
+        opened(alloc, 95, 96)?,
+        Err(OpenFault::Seal(SealFault::TooShort))
+    );
     Ok(())
 }
 

@@ -1,5 +1,4 @@
-use Rattle.std.proofs.Common.{◌+◌, List, ℕ, length, ◌≡◌, Ok, arith, rules, subst, sym, ap, ◌∙◌}
-use Rattle.qerun.specs.Opening.{reply_to}
+use Rattle.std.proofs.Common.{length, ◌≡◌, arith, rules, sym, ◌∙◌}
 use Rattle.qerun.proofs.OpeningLemmas.{only_memory}
 use Rattle.qerun.proofs.RunLemmas.{reached_start, reached_at, kept_at}
 use Rattle.qerun.proofs.run.run.Goals as goal
@@ -19,13 +18,13 @@ loop-command-preserved c =
     let long : length c.server_iv.result ≡ 16 = search rules in
     let kept =
     kept_at header _ c.server_iv.result c.args.commands.now c.loop-command.command-index _ c.in_ok-request.request c.loop-command.server c.serve.new.self
-        c.in_ok-answer.answer c.new-client.ensures.bytes long c.requires c.loop-command-test.true c.loop-command.invariant.1 sends c.in_ok-answer.ensures in (
+    c.in_ok-answer.answer c.new-client.ensures.bytes long c.requires c.loop-command-test.true c.loop-command.invariant.1 sends c.in_ok-answer.ensures in (
       c.loop-command.invariant.0,
       kept.all,
       λ clear. rw (c.in_ok-push-in-Ok.ensures.ok)
-      (reached_at header _ c.server_iv.result c.args.commands.now c.loop-command.command-index _ c.in_ok-request.request c.loop-command.replies
-      c.loop-command.server c.serve.new.self c.in_ok-answer.answer c.in-Ok.reply c.new-client.ensures.bytes long c.requires clear (omega arith)
-      c.loop-command-test.true (c.loop-command.invariant.2 clear) sends c.in_ok-answer.ensures (c.in-Ok.ensures header c.loop-command.invariant.0)),
+          (reached_at header _ c.server_iv.result c.args.commands.now c.loop-command.command-index _ c.in_ok-request.request c.loop-command.replies
+          c.loop-command.server c.serve.new.self c.in_ok-answer.answer c.in-Ok.reply c.new-client.ensures.bytes long c.requires clear (omega arith)
+          c.loop-command-test.true (c.loop-command.invariant.2 clear) sends c.in_ok-answer.ensures (c.in-Ok.ensures header c.loop-command.invariant.0)),
     )
 
 pub prove-unreachable-requires : goal.prove-unreachable-requires
@@ -35,9 +34,9 @@ prove-unreachable-requires c =
     let long : length c.server_iv.result ≡ 16 = search rules in
     let kept =
     kept_at header _ c.server_iv.result c.args.commands.now c.loop-command.command-index _ c.in_ok-request.request c.loop-command.server c.serve.new.self
-        c.in_ok-answer.answer c.new-client.ensures.bytes long c.requires c.loop-command-test.true c.loop-command.invariant.1 sends c.in_ok-answer.ensures in
+    c.in_ok-answer.answer c.new-client.ensures.bytes long c.requires c.loop-command-test.true c.loop-command.invariant.1 sends c.in_ok-answer.ensures in
     let memory = only_memory c.in-Err.fault _ kept.reply (c.in-Err.ensures header c.loop-command.invariant.0) kept.is_reply in
     elim c.match-matches.branch [
-      in-NoMemory w ↦ let same = sym w.matches-is ∙ c.if-prove.true in absurd cc
-    | in_default w ↦ w.in_default.not-NoMemory memory
+      | in-NoMemory w ↦ let same = sym w.matches-is ∙ c.if-prove.true in absurd cc
+      | in_default w ↦ w.in_default.not-NoMemory memory
     ]

@@ -1,6 +1,5 @@
-use Rattle.std.proofs.Common.{◌≡◌, ◌++◌, ◌∷◌, [], List, Bool, cond, ap, sym, ◌∙◌, append-nil, take}
+use Rattle.std.proofs.Common.{◌++◌, ◌∷◌, [], cond, ap, sym, ◌∙◌, append-nil, take}
 use Rattle.qerun.specs.Server.{tagged_among}
-use Rattle.qerun.specs.declared.stored.Stored.{Stored}
 use Rattle.qerun.proofs.FoundLemmas.{tagged_among-more}
 use Rattle.qerun.proofs.server.tagged_among.Goals as goal
 use Rattle.qerun.proofs.server.tagged_among.Goals.{then-has+in_ok-copy+in_ok-push, else-has}
@@ -13,11 +12,11 @@ loop-document-preserved c =
     tagged_among-more c.args.tags.now c.args.documents.now c.loop-document.document-index one c.loop-document-test.true c.document-item.is
     ∙ ap (λ found. before ++ cond found (one ∷ []) []) (sym c.has.ensures.value) in
     elim c.if-has.branch [
-      then-has+in_ok-copy+in_ok-push w ↦
-        w.found-is ∙ w.in_ok-push.ensures.ok ∙ ap (λ other. c.loop-document.found ++ other ∷ []) w.in_ok-copy.ensures
-        ∙ ap (λ found. found ++ one ∷ []) c.loop-document.invariant
-        ∙ sym (more ∙ ap (λ found. before ++ cond found (one ∷ []) []) w.if-has.true)
-    | else-has w ↦
-        w.found-is ∙ c.loop-document.invariant
-        ∙ sym (more ∙ ap (λ found. before ++ cond found (one ∷ []) []) w.if-has.false ∙ append-nil before)
+      | then-has+in_ok-copy+in_ok-push w ↦
+          w.found-is ∙ w.in_ok-push.ensures.ok ∙ ap (λ other. c.loop-document.found ++ other ∷ []) w.in_ok-copy.ensures
+          ∙ ap (λ found. found ++ one ∷ []) c.loop-document.invariant
+          ∙ sym (more ∙ ap (λ found. before ++ cond found (one ∷ []) []) w.if-has.true)
+      | else-has w ↦
+          w.found-is ∙ c.loop-document.invariant
+          ∙ sym (more ∙ ap (λ found. before ++ cond found (one ∷ []) []) w.if-has.false ∙ append-nil before)
     ]

@@ -1,6 +1,6 @@
-use Rattle.std.proofs.Common.{◌≡◌, ◌+◌, ◌++◌, ◌∷◌, [], sym, zero-add}
+use Rattle.std.proofs.Common.{◌+◌, sym, zero-add}
 use Rattle.std.proofs.lemmas.List.FromFn.{map-range_with_len_more}
-use Rattle.qerun.specs.Server.{tag_id, tags_to}
+use Rattle.qerun.specs.Server.{tag_id}
 use Rattle.qerun.proofs.server.tags_to.Goals as goal
 
 pub loop-k-preserved : goal.loop-k-preserved

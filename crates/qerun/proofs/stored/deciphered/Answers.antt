@@ -1,4 +1,4 @@
-use Rattle.std.proofs.Common.{◌≡◌, ◌≤◌, [], drop, take, refl, sym, ap, ◌∙◌, arith}
+use Rattle.std.proofs.Common.{◌≡◌, [], drop, take, sym, ap, ◌∙◌, arith}
 use Rattle.std.proofs.lemmas.List.{drop_all, nil_from_length}
 use Rattle.qe_aes.specs.CounterMode.{counter_mode}
 use Rattle.qe_aes.proofs.CounterLemmas.{counter_mode-IsCounterMode}

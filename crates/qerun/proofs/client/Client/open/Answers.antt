@@ -1,8 +1,8 @@
-use Rattle.std.proofs.Common.{◌≡◌, ℕ, List, length, false, true, take, drop, sym, ap, subst, ◌∙◌, rules, Err, Ok}
+use Rattle.std.proofs.Common.{◌≡◌, length, false, true, take, drop, sym, ap, ◌∙◌, rules}
 use Rattle.std.proofs.lemmas.Result.{err_from_is_err_and}
 use Rattle.std.specs.Str.{bytes_eq}
 use Rattle.qe_seal.specs.Sealed.{opened_value}
-use Rattle.qerun.specs.Opening.{int32_of, unsealed, value_in, value_sent, Opens}
+use Rattle.qerun.specs.Opening.{int32_of, unsealed, value_in}
 use Rattle.qerun.proofs.OpeningLemmas.{opens, opens_seal, value_in-sent, value_sent-other, value_sent-own}
 use Rattle.qerun.proofs.client.Client.open.Goals as goal
 

@@ -1,7 +1,6 @@
 use Rattle.std.proofs.Common.{◌≡◌, ◌+◌, ◌%◌, ◌^◌, ℕ, List, ap, ◌∙◌, arith}
 use Rattle.std.specs.Int.{w32, to_le_bytes}
 use Rattle.rand_chacha.specs.ChaCha.{ChaCha, word_at, key_of}
-use Rattle.qerun.specs.Draws.{draw_at}
 use Rattle.qerun.proofs.DrawLemmas.{iv_listed}
 use Rattle.qerun.proofs.draws.Draws.iv.Goals as goal
 
