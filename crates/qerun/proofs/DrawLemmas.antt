@@ -1,10 +1,10 @@
 -- The bytes of random words.
-use Rattle.std.proofs.Common.{◌≡◌, ◌<◌, ◌+◌, ◌/◌, ◌%◌, ℕ, List, [], ◌∷◌, ◌++◌, get_or, refl, arith}
+use Rattle.std.proofs.Common.{◌≡◌, length, ◌<◌, ◌+◌, ◌/◌, ◌%◌, ℕ, List, [], ◌∷◌, ◌++◌, get_or, refl, arith}
 use Rattle.std.specs.Int.{w32, to_le_bytes}
 use Rattle.qe_aes.specs.Laws.{AreBytes, IsBlock}
 use Rattle.qe_aes.proofs.ByteLemmas.{AreBytes-nil, AreBytes-cons, AreBytes-append}
 use Rattle.rand_chacha.specs.ChaCha.{word_at, key_of}
-use Rattle.qerun.specs.Draws.{draw_at, iv_at}
+use Rattle.qerun.specs.Draws.{draw_at, iv_at, server_ivs_at}
 
 -- an array of the bytes of four words
 words_listed : (x y z w : ℕ) (a b c d : List ℕ) → a ≡ to_le_bytes w32 x → b ≡ to_le_bytes w32 y → c ≡ to_le_bytes w32 z → d ≡ to_le_bytes w32 w
@@ -48,3 +48,8 @@ unfolding iv_at
 IsBlock-iv_at key command place =
     four_words (word_at 10 (key_of key) command place) (word_at 10 (key_of key) command (place + 1))
     (word_at 10 (key_of key) command (place + 2)) (word_at 10 (key_of key) command (place + 3))
+
+-- so has the server's first
+pub length-server_iv : (key : List ℕ) (command : ℕ) → length (server_ivs_at key command).value ≡ 16
+unfolding server_ivs_at
+length-server_iv key command = (IsBlock-iv_at key command 10).long

@@ -1,21 +1,26 @@
 -- Values that are opened one after another.
-use Rattle.std.proofs.Common.{◌≡◌, ℕ, ℤ, List, [], ◌∷◌, ◌++◌, take, drop, true, false, Result, Ok, Err, refl, sym, ap, append_assoc, append-nil}
+use Rattle.std.proofs.Common.{◌≡◌, Bool, true, false, not, ℕ, ℤ, List, [], ◌∷◌, ◌++◌, take, drop, true, false, Result, Ok, Err, refl, sym, ap, append_assoc, append-nil}
 use Rattle.std.specs.Str.{bytes_eq}
 use Rattle.qe_script.specs.declared.script.Header.{Header}
+use Rattle.qe_indexed.specs.Cut.{indexed_at, Answers}
+use Rattle.qe_indexed.specs.Parts as parts
+use Rattle.qe_indexed.specs.declared.fault.IndexedFault.{IndexedFault}
+use Rattle.qe_indexed.specs.declared.fault.IndexedFault.TheVariants as indexed
 use Rattle.qe_seal.specs.Sealed.{opened_value, AnswersSeal}
 use Rattle.qe_seal.specs.declared.sealed.SealFault.{SealFault}
 use Rattle.qe_seal.specs.declared.sealed.SealFault.TheVariants as seal
 use Rattle.qe_tokens.specs.Tokens.{root_key_of, server_cipher_of}
-use Rattle.qerun.specs.Opening.{on_ok, Opens, seal_refusal, unsealed, value_sent, value_in, documents_in}
+use Rattle.qerun.specs.Opening.{on_ok, Opens, seal_refusal, indexed_refusal, unsealed, value_sent, sealed_in, value_of, value_in, documents_in}
 use Rattle.qerun.specs.Stored.{deciphered}
 use Rattle.qerun.specs.declared.document.Document.{Document}
 use Rattle.qerun.specs.declared.opening.OpenFault.{OpenFault}
-use Rattle.qerun.specs.declared.opening.OpenFault.TheVariants.{KeyDiffers, Seal, NotInt32, NoMemory}
+use Rattle.qerun.specs.declared.opening.OpenFault.TheVariants.{Indexed, KeyDiffers, Seal, NotInt32, NoMemory}
 use Rattle.qerun.specs.declared.stored.Stored.{Stored}
 
 -- the answer that is due is given
 pub opens : {A : Type 0} (answer due : Result A OpenFault) → answer ≡ due → Opens answer due
 opens (Ok x) due e = e
+opens (Err (Indexed fault)) due e = e
 opens (Err KeyDiffers) due e = e
 opens (Err (Seal fault)) due e = e
 opens (Err NotInt32) due e = e
@@ -24,6 +29,7 @@ opens (Err NoMemory) due e = tt
 -- a fault is passed on, want of memory too
 pub opens_on : {A B : Type 0} (fault : OpenFault) (inner : Result A OpenFault) (due : Result B OpenFault) → Opens (Err fault) inner
     → (inner ≡ Err fault → Err fault ≡ due) → Opens (Err fault) due
+opens_on (Indexed fault) inner due given on = on (sym given)
 opens_on KeyDiffers inner due given on = on (sym given)
 opens_on (Seal fault) inner due given on = on (sym given)
 opens_on NotInt32 inner due given on = on (sym given)
@@ -31,6 +37,7 @@ opens_on NoMemory inner due given on = tt
 
 -- where an answer is due, want of memory alone refuses it
 pub only_memory : {A : Type 0} (fault : OpenFault) (due : Result A OpenFault) (value : A) → Opens (Err fault) due → due ≡ Ok value → fault ≡ NoMemory
+only_memory (Indexed fault) due value given is = cc
 only_memory KeyDiffers due value given is = cc
 only_memory (Seal fault) due value given is = cc
 only_memory NotInt32 due value given is = cc
@@ -44,12 +51,32 @@ opens_seal seal.BadLength inner given = ap unsealed given
 opens_seal seal.BadPadding inner given = ap unsealed given
 opens_seal seal.NoMemory inner given = tt
 
--- what a client reads of a stored value, by what it has deciphered
-pub value_in-sent : (header : Header) (key key_id cipher stored sent : List ℕ) → key ≡ header.field.key → key_id ≡ header.field.key_id
-    → cipher ≡ server_cipher_of (root_key_of header.field.key) → sent ≡ deciphered cipher stored
-    → value_in header stored ≡ value_sent key key_id sent
+-- refused bytes are passed on
+pub opens_indexed : (header : Header) (fault : IndexedFault) (due : Result parts.Indexed IndexedFault) → Answers (Err fault) due
+    → Opens (Err (indexed_refusal fault)) (value_of header due)
+opens_indexed header (indexed.BlobSubtype first) due given = ap (value_of header) given
+opens_indexed header indexed.Short due given = ap (value_of header) given
+opens_indexed header indexed.EdgeCountZero due given = ap (value_of header) given
+opens_indexed header indexed.LengthWrong due given = ap (value_of header) given
+opens_indexed header indexed.NoMemory due given = tt
+
+-- an indexed value of the field's key, and of another
+pub value_in-own : (header : Header) (stored : List ℕ) (value : parts.Indexed) → indexed_at stored ≡ Ok value → bytes_eq value.key_id header.field.key_id ≡ true
+    → value_in header stored ≡ sealed_in header value.server_value
 unfolding value_in
-value_in-sent header key key_id cipher stored sent same_key same_id same_cipher is_sent = rw (is_sent, same_key, same_id, same_cipher)
+value_in-own header stored value is same = rw (is, same)
+
+pub value_in-other : (header : Header) (stored : List ℕ) (value : parts.Indexed) → indexed_at stored ≡ Ok value → bytes_eq value.key_id header.field.key_id ≡ false
+    → value_in header stored ≡ Err KeyDiffers
+unfolding value_in
+value_in-other header stored value is differs = rw (is, differs)
+
+-- what a client reads of a server-encrypted value, by what it has deciphered
+pub sealed_in-sent : (header : Header) (key key_id cipher stored sent : List ℕ) → key ≡ header.field.key → key_id ≡ header.field.key_id
+    → cipher ≡ server_cipher_of (root_key_of header.field.key) → sent ≡ deciphered cipher stored
+    → sealed_in header stored ≡ value_sent key key_id sent
+unfolding sealed_in
+sealed_in-sent header key key_id cipher stored sent same_key same_id same_cipher is_sent = rw (is_sent, same_key, same_id, same_cipher)
 
 pub value_sent-other : (key key_id sent : List ℕ) → bytes_eq (take 16 sent) key_id ≡ false → value_sent key key_id sent ≡ Err KeyDiffers
 value_sent-other key key_id sent differs = rw differs
@@ -87,3 +114,12 @@ pub behind-fault : (header : Header) (done : List Document) (stored rest : List 
     → value_in header one.value ≡ Err fault → Err fault ≡ behind done (documents_in header stored)
 unfolding documents_in
 behind-fault header done stored rest one fault first is_fault = rw (first, is_fault)
+
+-- what a test that is turned round says
+pub differ_from_not : (b : Bool) → true ≡ not b → b ≡ false
+differ_from_not true is = cc
+differ_from_not false is = refl
+
+pub same_from_not : (b : Bool) → false ≡ not b → b ≡ true
+same_from_not true is = refl
+same_from_not false is = cc

@@ -24,7 +24,7 @@ use Rattle.qerun.specs.Client.{HasBytes, Sends, IsSent, tokens_of}
 use Rattle.qerun.specs.Opening.{on_ok, reply_to, value_in, documents_in}
 use Rattle.qerun.specs.Plain.{has_id, matching, documents_after, replies_from, plain_replay}
 use Rattle.qerun.specs.Server.{Serves, Adds, Finds, FindsIds, has_stored, tagged_among, tags_to}
-use Rattle.qerun.specs.Stored.{server_value}
+use Rattle.qerun.specs.declared.stored.ServerIvs.{ServerIvs}
 use Rattle.qerun.specs.Words.{item_of, NoClash, values_of, values_from, times_from}
 use Rattle.qerun.proofs.ApartLemmas.{IsMet, total}
 use Rattle.qerun.proofs.StandsLemmas.{StandsFor, StandForAll, count_is, found_stand, ids_are_plain, opened_are_plain, has_stored_is}
@@ -116,11 +116,10 @@ reached_duplicate header commands rest replies old new id v reached stored same 
     }
 
 -- an insert of a new id
-reached_inserted : (header : Header) (commands rest : List Command) (replies : List Reply) (old new : Server) (id v : ℤ) (iv : List ℕ) (payload : Payload)
+reached_inserted : (header : Header) (commands rest : List Command) (replies : List Reply) (old new : Server) (id v : ℤ) (ivs : ServerIvs) (payload : Payload)
     → NoClash header.field.key commands → length commands < 2 ^ 64 → Reached header commands (Insert id v ∷ rest) replies old
-    → payload.tokens ≡ tokens_of header.field.key (item_of v) → value_in header (server_value payload.cipher.0 iv payload.value) ≡ Ok v
-    → Adds iv old new id payload → Reached header commands rest (replies ++ reply.Inserted ∷ []) new
-reached_inserted header commands rest replies old new id v iv payload clear short reached tokens opens adds =
+    → payload.tokens ≡ tokens_of header.field.key (item_of v) → (adds : Adds ivs old new id payload) → value_in header adds.value ≡ Ok v → Reached header commands rest (replies ++ reply.Inserted ∷ []) new
+reached_inserted header commands rest replies old new id v ivs payload clear short reached tokens adds opens =
     let fresh : has_id reached.documents id ≡ false = sym (has_stored_is header commands reached.n id _ _ reached.stands.stored) ∙ adds.fresh in
     let few : (w : ℤ) → raised reached.n v w + length rest ≤ length commands =
     λ w. let before = reached.few w in let one = at_most_one (int_eq v w) in omega arith in
@@ -131,8 +130,8 @@ reached_inserted header commands rest replies old new id v iv payload clear shor
       n = raised reached.n v;
       documents = reached.documents ++ record { id = id; value = v } ∷ [];
       stands =
-          stands_added header commands reached.n reached.documents old new id v iv payload clear reached.stands is_met
-          (let before = reached.few v in omega arith) (λ w. let here = numbers w in omega arith) tokens opens adds;
+          stands_added header commands reached.n reached.documents old new id v ivs payload clear reached.stands is_met
+          (let before = reached.few v in omega arith) (λ w. let here = numbers w in omega arith) tokens adds opens;
       numbers = numbers;
       few = few;
       met = λ w found. reached.met w (rw fresh (Contains-append_right (v ∷ []) _ w found));
@@ -210,70 +209,71 @@ kept_found header old new found tokens all same finds =
     (rw (finds.tagged) (all_open-filter header _ old.documents all)) in
     record { reply = reply.Found opened.0; is_reply = ap (on_ok (λ documents. Ok (reply.Found documents))) opened.1; all = rw same all }
 
-kept_inserted : (header : Header) (number : ℕ) (iv : List ℕ) (old new : Server) (id v : ℤ) (payload : Payload) → HasBytes header → length iv ≡ 16
-    → FitsSigned w32 v → AllOpen header old.documents → IsSent header number (item_of v) payload → Adds iv old new id payload
+kept_inserted : (header : Header) (number : ℕ) (ivs : ServerIvs) (old new : Server) (id v : ℤ) (payload : Payload) → HasBytes header → length ivs.value ≡ 16
+    → FitsSigned w32 v → AllOpen header old.documents → IsSent header number (item_of v) payload → Adds ivs old new id payload
     → Kept header answer.Inserted new
-kept_inserted header number iv old new id v payload has long fits all sent adds = record {
+kept_inserted header number ivs old new id v payload has long fits all sent adds = record {
   reply = reply.Inserted;
   is_reply = refl;
-  all = rw (adds.document) (all_open-push header old.documents _ v all (value_in-stored header number iv v payload has long fits sent));
+  all = rw (adds.document) (all_open-push header old.documents _ v all (value_in-stored header number (adds.count + 1) ivs v payload adds.value has long fits sent adds.indexed));
 }
 
-kept_next : (header : Header) (number : ℕ) (iv : List ℕ) (command : Command) (request : Request) (old new : Server) (answer : Answer)
-    → HasBytes header → length iv ≡ 16 → FitsInt32 command → AllOpen header old.documents → Sends header number command request
-    → Serves request iv old new answer → Kept header answer new
-kept_next header number iv (Insert id v) (request.Insert sent payload) old new answer.Inserted has long fits all sends serves =
-    kept_inserted header number iv old new sent v payload has long fits.1 all sends.1 serves
-kept_next header number iv (Insert id v) (request.Insert sent payload) old new answer.Duplicate has long fits all sends serves =
+kept_next : (header : Header) (number : ℕ) (ivs : ServerIvs) (command : Command) (request : Request) (old new : Server) (answer : Answer)
+    → HasBytes header → length ivs.value ≡ 16 → FitsInt32 command → AllOpen header old.documents → Sends header number command request
+    → Serves request ivs old new answer → Kept header answer new
+kept_next header number ivs (Insert id v) (request.Insert sent payload) old new answer.Inserted has long fits all sends serves =
+    kept_inserted header number ivs old new sent v payload has long fits.1 all sends.1 serves
+kept_next header number ivs (Insert id v) (request.Insert sent payload) old new answer.Duplicate has long fits all sends serves =
     record { reply = reply.Duplicate; is_reply = refl; all = rw (serves.1) all }
-kept_next header number iv (Insert id v) (request.Insert sent payload) old new (answer.Found found) has long fits all sends serves = absurd serves
-kept_next header number iv (Insert id v) (request.Insert sent payload) old new (answer.Ids ids) has long fits all sends serves = absurd serves
-kept_next header number iv (Insert id v) (request.Find tokens) old new answer has long fits all sends serves = absurd sends
-kept_next header number iv (Insert id v) (request.Ids tokens) old new answer has long fits all sends serves = absurd sends
-kept_next header number iv (Find v) (request.Insert sent payload) old new answer has long fits all sends serves = absurd sends
-kept_next header number iv (Find v) (request.Find tokens) old new answer.Inserted has long fits all sends serves = absurd serves
-kept_next header number iv (Find v) (request.Find tokens) old new answer.Duplicate has long fits all sends serves = absurd serves
-kept_next header number iv (Find v) (request.Find tokens) old new (answer.Found found) has long fits all sends serves =
+kept_next header number ivs (Insert id v) (request.Insert sent payload) old new (answer.Found found) has long fits all sends serves = absurd serves
+kept_next header number ivs (Insert id v) (request.Insert sent payload) old new (answer.Ids ids) has long fits all sends serves = absurd serves
+kept_next header number ivs (Insert id v) (request.Find tokens) old new answer has long fits all sends serves = absurd sends
+kept_next header number ivs (Insert id v) (request.Ids tokens) old new answer has long fits all sends serves = absurd sends
+kept_next header number ivs (Find v) (request.Insert sent payload) old new answer has long fits all sends serves = absurd sends
+kept_next header number ivs (Find v) (request.Find tokens) old new answer.Inserted has long fits all sends serves = absurd serves
+kept_next header number ivs (Find v) (request.Find tokens) old new answer.Duplicate has long fits all sends serves = absurd serves
+kept_next header number ivs (Find v) (request.Find tokens) old new (answer.Found found) has long fits all sends serves =
     kept_found header old new found tokens all serves.0 serves.1
-kept_next header number iv (Find v) (request.Find tokens) old new (answer.Ids ids) has long fits all sends serves = absurd serves
-kept_next header number iv (Find v) (request.Ids tokens) old new answer has long fits all sends serves = absurd sends
-kept_next header number iv (Ids v) (request.Insert sent payload) old new answer has long fits all sends serves = absurd sends
-kept_next header number iv (Ids v) (request.Find tokens) old new answer has long fits all sends serves = absurd sends
-kept_next header number iv (Ids v) (request.Ids tokens) old new answer.Inserted has long fits all sends serves = absurd serves
-kept_next header number iv (Ids v) (request.Ids tokens) old new answer.Duplicate has long fits all sends serves = absurd serves
-kept_next header number iv (Ids v) (request.Ids tokens) old new (answer.Found found) has long fits all sends serves = absurd serves
-kept_next header number iv (Ids v) (request.Ids tokens) old new (answer.Ids ids) has long fits all sends serves =
+kept_next header number ivs (Find v) (request.Find tokens) old new (answer.Ids ids) has long fits all sends serves = absurd serves
+kept_next header number ivs (Find v) (request.Ids tokens) old new answer has long fits all sends serves = absurd sends
+kept_next header number ivs (Ids v) (request.Insert sent payload) old new answer has long fits all sends serves = absurd sends
+kept_next header number ivs (Ids v) (request.Find tokens) old new answer has long fits all sends serves = absurd sends
+kept_next header number ivs (Ids v) (request.Ids tokens) old new answer.Inserted has long fits all sends serves = absurd serves
+kept_next header number ivs (Ids v) (request.Ids tokens) old new answer.Duplicate has long fits all sends serves = absurd serves
+kept_next header number ivs (Ids v) (request.Ids tokens) old new (answer.Found found) has long fits all sends serves = absurd serves
+kept_next header number ivs (Ids v) (request.Ids tokens) old new (answer.Ids ids) has long fits all sends serves =
     record { reply = reply.Ids ids; is_reply = refl; all = rw (serves.0) all }
 
 -- one command
-reached_next : (header : Header) (number : ℕ) (iv : List ℕ) (commands rest : List Command) (command : Command) (request : Request) (replies : List Reply)
-    (old new : Server) (answer : Answer) (one : Reply) → HasBytes header → length iv ≡ 16 → FitsInt32 command → NoClash header.field.key commands
+reached_next : (header : Header) (number : ℕ) (ivs : ServerIvs) (commands rest : List Command) (command : Command) (request : Request) (replies : List Reply)
+    (old new : Server) (answer : Answer) (one : Reply) → HasBytes header → length ivs.value ≡ 16 → FitsInt32 command → NoClash header.field.key commands
     → length commands < 2 ^ 64 → Reached header commands (command ∷ rest) replies old → Sends header number command request
-    → Serves request iv old new answer → Ok one ≡ reply_to header answer → Reached header commands rest (replies ++ one ∷ []) new
-reached_next header number iv commands rest (Insert id v) (request.Insert sent payload) replies old new answer.Inserted one has long fits clear short reached sends serves is_reply =
+    → Serves request ivs old new answer → Ok one ≡ reply_to header answer → Reached header commands rest (replies ++ one ∷ []) new
+reached_next header number ivs commands rest (Insert id v) (request.Insert sent payload) replies old new answer.Inserted one has long fits clear short reached sends serves is_reply =
     let here : one ≡ reply.Inserted = cc in
-    rw here (reached_inserted header commands rest replies old new id v iv payload clear short reached sends.1.tokens
-    (value_in-stored header number iv v payload has long fits.1 sends.1) (rw (sends.0) at serves))
-reached_next header number iv commands rest (Insert id v) (request.Insert sent payload) replies old new answer.Duplicate one has long fits clear short reached sends serves is_reply =
+    let adds = rw (sends.0) at serves in
+    rw here (reached_inserted header commands rest replies old new id v ivs payload clear short reached sends.1.tokens adds
+    (value_in-stored header number (adds.count + 1) ivs v payload adds.value has long fits.1 sends.1 adds.indexed))
+reached_next header number ivs commands rest (Insert id v) (request.Insert sent payload) replies old new answer.Duplicate one has long fits clear short reached sends serves is_reply =
     let here : one ≡ reply.Duplicate = cc in
     rw here (reached_duplicate header commands rest replies old new id v reached (rw (sends.0) at (serves.0)) serves.1)
-reached_next header number iv commands rest (Insert id v) (request.Insert sent payload) replies old new (answer.Found found) one has long fits clear short reached sends serves is_reply = absurd serves
-reached_next header number iv commands rest (Insert id v) (request.Insert sent payload) replies old new (answer.Ids ids) one has long fits clear short reached sends serves is_reply = absurd serves
-reached_next header number iv commands rest (Insert id v) (request.Find tokens) replies old new answer one has long fits clear short reached sends serves is_reply = absurd sends
-reached_next header number iv commands rest (Insert id v) (request.Ids tokens) replies old new answer one has long fits clear short reached sends serves is_reply = absurd sends
-reached_next header number iv commands rest (Find v) (request.Insert sent payload) replies old new answer one has long fits clear short reached sends serves is_reply = absurd sends
-reached_next header number iv commands rest (Find v) (request.Find tokens) replies old new answer.Inserted one has long fits clear short reached sends serves is_reply = absurd serves
-reached_next header number iv commands rest (Find v) (request.Find tokens) replies old new answer.Duplicate one has long fits clear short reached sends serves is_reply = absurd serves
-reached_next header number iv commands rest (Find v) (request.Find tokens) replies old new (answer.Found found) one has long fits clear short reached sends serves is_reply =
+reached_next header number ivs commands rest (Insert id v) (request.Insert sent payload) replies old new (answer.Found found) one has long fits clear short reached sends serves is_reply = absurd serves
+reached_next header number ivs commands rest (Insert id v) (request.Insert sent payload) replies old new (answer.Ids ids) one has long fits clear short reached sends serves is_reply = absurd serves
+reached_next header number ivs commands rest (Insert id v) (request.Find tokens) replies old new answer one has long fits clear short reached sends serves is_reply = absurd sends
+reached_next header number ivs commands rest (Insert id v) (request.Ids tokens) replies old new answer one has long fits clear short reached sends serves is_reply = absurd sends
+reached_next header number ivs commands rest (Find v) (request.Insert sent payload) replies old new answer one has long fits clear short reached sends serves is_reply = absurd sends
+reached_next header number ivs commands rest (Find v) (request.Find tokens) replies old new answer.Inserted one has long fits clear short reached sends serves is_reply = absurd serves
+reached_next header number ivs commands rest (Find v) (request.Find tokens) replies old new answer.Duplicate one has long fits clear short reached sends serves is_reply = absurd serves
+reached_next header number ivs commands rest (Find v) (request.Find tokens) replies old new (answer.Found found) one has long fits clear short reached sends serves is_reply =
     reached_found header commands rest replies old new v found one clear short reached serves.0 (rw sends at (serves.1)) is_reply
-reached_next header number iv commands rest (Find v) (request.Find tokens) replies old new (answer.Ids ids) one has long fits clear short reached sends serves is_reply = absurd serves
-reached_next header number iv commands rest (Find v) (request.Ids tokens) replies old new answer one has long fits clear short reached sends serves is_reply = absurd sends
-reached_next header number iv commands rest (Ids v) (request.Insert sent payload) replies old new answer one has long fits clear short reached sends serves is_reply = absurd sends
-reached_next header number iv commands rest (Ids v) (request.Find tokens) replies old new answer one has long fits clear short reached sends serves is_reply = absurd sends
-reached_next header number iv commands rest (Ids v) (request.Ids tokens) replies old new answer.Inserted one has long fits clear short reached sends serves is_reply = absurd serves
-reached_next header number iv commands rest (Ids v) (request.Ids tokens) replies old new answer.Duplicate one has long fits clear short reached sends serves is_reply = absurd serves
-reached_next header number iv commands rest (Ids v) (request.Ids tokens) replies old new (answer.Found found) one has long fits clear short reached sends serves is_reply = absurd serves
-reached_next header number iv commands rest (Ids v) (request.Ids tokens) replies old new (answer.Ids ids) one has long fits clear short reached sends serves is_reply =
+reached_next header number ivs commands rest (Find v) (request.Find tokens) replies old new (answer.Ids ids) one has long fits clear short reached sends serves is_reply = absurd serves
+reached_next header number ivs commands rest (Find v) (request.Ids tokens) replies old new answer one has long fits clear short reached sends serves is_reply = absurd sends
+reached_next header number ivs commands rest (Ids v) (request.Insert sent payload) replies old new answer one has long fits clear short reached sends serves is_reply = absurd sends
+reached_next header number ivs commands rest (Ids v) (request.Find tokens) replies old new answer one has long fits clear short reached sends serves is_reply = absurd sends
+reached_next header number ivs commands rest (Ids v) (request.Ids tokens) replies old new answer.Inserted one has long fits clear short reached sends serves is_reply = absurd serves
+reached_next header number ivs commands rest (Ids v) (request.Ids tokens) replies old new answer.Duplicate one has long fits clear short reached sends serves is_reply = absurd serves
+reached_next header number ivs commands rest (Ids v) (request.Ids tokens) replies old new (answer.Found found) one has long fits clear short reached sends serves is_reply = absurd serves
+reached_next header number ivs commands rest (Ids v) (request.Ids tokens) replies old new (answer.Ids ids) one has long fits clear short reached sends serves is_reply =
     reached_ids header commands rest replies old new v ids one clear short reached serves.0 (rw sends at (serves.1)) is_reply
 
 -- the numbers of the command at a place are int32s
@@ -283,20 +283,20 @@ fits_at (command ∷ commands) zero other all within = all.0
 fits_at (command ∷ commands) (suc place) other all within = fits_at commands place other all.1 (omega arith)
 
 -- the server behind the command at a place
-pub kept_at : (header : Header) (number : ℕ) (iv : List ℕ) (commands : List Command) (place : ℕ) (other : Command) (request : Request) (old new : Server)
-    (answer : Answer) → HasBytes header → length iv ≡ 16 → AllInt32 commands → place < length commands → AllOpen header old.documents
-    → Sends header number (get_or commands place other) request → Serves request iv old new answer → Kept header answer new
-kept_at header number iv commands place other request old new answer has long all within opening sends serves =
-    kept_next header number iv (get_or commands place other) request old new answer has long (fits_at commands place other all within) opening sends serves
+pub kept_at : (header : Header) (number : ℕ) (ivs : ServerIvs) (commands : List Command) (place : ℕ) (other : Command) (request : Request) (old new : Server)
+    (answer : Answer) → HasBytes header → length ivs.value ≡ 16 → AllInt32 commands → place < length commands → AllOpen header old.documents
+    → Sends header number (get_or commands place other) request → Serves request ivs old new answer → Kept header answer new
+kept_at header number ivs commands place other request old new answer has long all within opening sends serves =
+    kept_next header number ivs (get_or commands place other) request old new answer has long (fits_at commands place other all within) opening sends serves
 
 -- the run behind the command at a place
-pub reached_at : (header : Header) (number : ℕ) (iv : List ℕ) (commands : List Command) (place : ℕ) (other : Command) (request : Request)
-    (replies : List Reply) (old new : Server) (answer : Answer) (one : Reply) → HasBytes header → length iv ≡ 16 → AllInt32 commands
+pub reached_at : (header : Header) (number : ℕ) (ivs : ServerIvs) (commands : List Command) (place : ℕ) (other : Command) (request : Request)
+    (replies : List Reply) (old new : Server) (answer : Answer) (one : Reply) → HasBytes header → length ivs.value ≡ 16 → AllInt32 commands
     → NoClash header.field.key commands → length commands < 2 ^ 64 → place < length commands
     → Reached header commands (drop place commands) replies old → Sends header number (get_or commands place other) request
-    → Serves request iv old new answer → Ok one ≡ reply_to header answer
+    → Serves request ivs old new answer → Ok one ≡ reply_to header answer
     → Reached header commands (drop (place + 1) commands) (replies ++ one ∷ []) new
-reached_at header number iv commands place other request replies old new answer one has long all clear short within reached sends serves is_reply =
+reached_at header number ivs commands place other request replies old new answer one has long all clear short within reached sends serves is_reply =
     let here : drop place commands ≡ get_or commands place other ∷ drop (place + 1) commands = drop_more commands place other within in
-    reached_next header number iv commands (drop (place + 1) commands) (get_or commands place other) request replies old new answer one has long
+    reached_next header number ivs commands (drop (place + 1) commands) (get_or commands place other) request replies old new answer one has long
     (fits_at commands place other all within) clear short (rw here at reached) sends serves is_reply

@@ -14,7 +14,7 @@ use Rattle.qerun.specs.declared.document.Document.{Document}
 use Rattle.qerun.specs.declared.request.Payload.{Payload}
 use Rattle.qerun.specs.Opening.{value_in}
 use Rattle.qerun.specs.Server.{Adds}
-use Rattle.qerun.specs.Stored.{server_value}
+use Rattle.qerun.specs.declared.stored.ServerIvs.{ServerIvs}
 use Rattle.qerun.specs.Words.{item_of, NoClash}
 use Rattle.qerun.proofs.ApartLemmas.{IsMet, total}
 use Rattle.qerun.proofs.StandsLemmas.{row, tag, IsPlaced, StandsForOne, StandForAll, StandsFor, count_is}
@@ -51,12 +51,11 @@ stand_push header commands n m (d ∷ ds) (s ∷ ss) document one more stand las
     (stands_later header commands n m d s more stand.0, stand_push header commands n m ds ss document one more stand.1 last)
 
 -- an insert adds the next row and a document
-pub stands_added : (header : Header) (commands : List Command) (n : ℤ → ℕ) (documents : List Document) (old new : Server) (id v : ℤ) (iv : List ℕ) (payload : Payload) → NoClash header.field.key commands
+pub stands_added : (header : Header) (commands : List Command) (n : ℤ → ℕ) (documents : List Document) (old new : Server) (id v : ℤ) (ivs : ServerIvs) (payload : Payload) → NoClash header.field.key commands
     → StandsFor header commands n documents old → IsMet commands v → n v < 2 ^ 64 - 1 → ((w : ℤ) → raised n v w ≤ total commands w)
-    → payload.tokens ≡ tokens_of header.field.key (item_of v) → value_in header (server_value payload.cipher.0 iv payload.value) ≡ Ok v
-    → Adds iv old new id payload
+    → payload.tokens ≡ tokens_of header.field.key (item_of v) → (adds : Adds ivs old new id payload) → value_in header adds.value ≡ Ok v
     → StandsFor header commands (raised n v) (documents ++ record { id = id; value = v } ∷ []) new
-stands_added header commands n documents old new id v iv payload clear stands is_met small few tokens opens adds = record {
+stands_added header commands n documents old new id v ivs payload clear stands is_met small few tokens adds opens = record {
   few = few;
   placed = λ w k below. rw (row_added) (at_place w k below);
   only = λ one there. at_row one (Contains-push_cases _ _ _ (rw (row_added) at there));
@@ -70,14 +69,14 @@ stands_added header commands n documents old new id v iv payload clear stands is
     row_added = rw tokens at adds.row
 
     document_added : new.documents ≡ old.documents
-        ++ record { id = id; tag = tag header v (adds.count + 1); value = server_value payload.cipher.0 iv payload.value } ∷ []
+        ++ record { id = id; tag = tag header v (adds.count + 1); value = adds.value } ∷ []
     document_added = rw tokens at adds.document
 
     counted : adds.count ≡ n v
     counted = count_is header commands n documents old v adds.count clear stands is_met small (rw tokens at adds.counted)
 
     added : StandsForOne header commands (raised n v) (record { id = id; value = v })
-        (record { id = id; tag = tag header v (adds.count + 1); value = server_value payload.cipher.0 iv payload.value })
+        (record { id = id; tag = tag header v (adds.count + 1); value = adds.value })
     added = record {
       id = refl;
       is_met = is_met;

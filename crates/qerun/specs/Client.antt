@@ -5,7 +5,7 @@ use Rattle.qe_script.specs.declared.script.Command.{Command}
 use Rattle.qe_script.specs.declared.script.Command.TheVariants as command
 use Rattle.qe_script.specs.declared.script.Header.{Header}
 use Rattle.qe_seal.specs.Sealed.{Seals}
-use Rattle.qe_tokens.specs.Tokens.{root_key_of, collections_of, edc_of, esc_of, server_cipher_of}
+use Rattle.qe_tokens.specs.Tokens.{root_key_of, collections_of, edc_of, esc_of, server_cipher_of, server_token_of, server_derived_of}
 use Rattle.qe_tokens.specs.Labels.{row_token, tag_token}
 use Rattle.qe_tokens.specs.declared.words.Word.{Word}
 use Rattle.qe_tokens.specs.declared.words.Word.TheVariants.{Item}
@@ -30,6 +30,7 @@ pub record IsClientOf (header : Header) (client : Client) : Type 0 where
   pub key_id : client.key_id ≡ header.field.key_id
   pub edc : client.edc.0 ≡ edc_token header.field.key
   pub esc : client.esc.0 ≡ esc_token header.field.key
+  pub server : client.server.0 ≡ server_token_of (root_key_of header.field.key)
   pub cipher : client.cipher.0 ≡ server_cipher_of (root_key_of header.field.key)
   pub draws : client.draws.key ≡ draws_key header.seed
 
@@ -49,7 +50,9 @@ tokens_of key item =
 -- The IV is the words from place 2 on of the command's stream.
 pub record IsSent (header : Header) (number : ℕ) (item : List ℕ) (payload : Payload) : Type 0 where
   pub tokens : payload.tokens ≡ tokens_of header.field.key item
+  pub server : payload.server.0 ≡ server_derived_of (server_token_of (root_key_of header.field.key)) item
   pub cipher : payload.cipher.0 ≡ server_cipher_of (root_key_of header.field.key)
+  pub key_id : payload.key_id ≡ header.field.key_id
   pub sealed : List ℕ
   pub seals : Seals header.field.key header.field.key_id (iv_at (draws_key header.seed) number 2) item sealed
   pub value : payload.value ≡ header.field.key_id ++ sealed

@@ -2,6 +2,7 @@
 use Rattle.std.specs.Prelude.{ℕ, ◌+◌, List, ◌++◌, codes}
 use Rattle.std.specs.Int.{w32, to_le_bytes}
 use Rattle.qe_seal.specs.Hmac.{hmac_sha256}
+use Rattle.qerun.specs.declared.stored.ServerIvs.{ServerIvs}
 use Rattle.rand_chacha.specs.ChaCha.{word_at, key_of}
 
 -- the HMAC of the caller's name under the seed
@@ -15,3 +16,7 @@ draw_at key command place = to_le_bytes w32 (word_at 10 (key_of key) command pla
 -- four words
 unfoldable pub iv_at : List ℕ → ℕ → ℕ → List ℕ
 iv_at key command place = draw_at key command place ++ (draw_at key command (place + 1) ++ (draw_at key command (place + 2) ++ draw_at key command (place + 3)))
+
+-- the server's, from place 10 on
+unfoldable pub server_ivs_at : List ℕ → ℕ → ServerIvs
+server_ivs_at key command = record { value = iv_at key command 10; numbers = iv_at key command 14; zeros = iv_at key command 18 }

@@ -2,6 +2,10 @@
 use Rattle.std.specs.Prelude.{◌≡◌, ℕ, ℤ, List, [], ◌∷◌, ◌==◌, length, take, drop, Result, Ok, Err, if◌then◌else◌}
 use Rattle.std.specs.Int.{w32, from_le_bytes, cast_signed}
 use Rattle.std.specs.Str.{bytes_eq}
+use Rattle.qe_indexed.specs.Cut.{indexed_at}
+use Rattle.qe_indexed.specs.Parts as parts
+use Rattle.qe_indexed.specs.declared.fault.IndexedFault.{IndexedFault}
+use Rattle.qe_indexed.specs.declared.fault.IndexedFault.TheVariants as indexed
 use Rattle.qe_script.specs.declared.script.Header.{Header}
 use Rattle.qe_seal.specs.Sealed.{opened_value}
 use Rattle.qe_seal.specs.declared.sealed.SealFault.{SealFault}
@@ -12,7 +16,7 @@ use Rattle.qerun.specs.declared.answer.Answer.{Answer}
 use Rattle.qerun.specs.declared.answer.Answer.TheVariants as answer
 use Rattle.qerun.specs.declared.document.Document.{Document}
 use Rattle.qerun.specs.declared.opening.OpenFault.{OpenFault}
-use Rattle.qerun.specs.declared.opening.OpenFault.TheVariants.{KeyDiffers, Seal, NotInt32, NoMemory}
+use Rattle.qerun.specs.declared.opening.OpenFault.TheVariants.{Indexed, KeyDiffers, Seal, NotInt32, NoMemory}
 use Rattle.qerun.specs.declared.reply.Reply.{Reply}
 use Rattle.qerun.specs.declared.reply.Reply.TheVariants.{Inserted, Duplicate, Found, Ids}
 use Rattle.qerun.specs.declared.stored.Stored.{Stored}
@@ -41,10 +45,26 @@ abbrev pub value_sent : List ℕ → List ℕ → List ℕ → Result ℤ OpenFa
 value_sent key key_id sent =
     if bytes_eq (take 16 sent) key_id then unsealed (opened_value key key_id (drop 16 sent)) else Err KeyDiffers
 
+-- the value that was sealed, under the server's cipher
+unfoldable pub sealed_in : Header → List ℕ → Result ℤ OpenFault
+sealed_in header server_value =
+    value_sent header.field.key header.field.key_id (deciphered (server_cipher_of (root_key_of header.field.key)) server_value)
+
+abbrev pub indexed_refusal : IndexedFault → OpenFault
+indexed_refusal indexed.NoMemory = NoMemory
+indexed_refusal (indexed.BlobSubtype first) = Indexed (indexed.BlobSubtype first)
+indexed_refusal indexed.Short = Indexed indexed.Short
+indexed_refusal indexed.EdgeCountZero = Indexed indexed.EdgeCountZero
+indexed_refusal indexed.LengthWrong = Indexed indexed.LengthWrong
+
+-- the value of an indexed value under the field's key
+abbrev pub value_of : Header → Result parts.Indexed IndexedFault → Result ℤ OpenFault
+value_of header (Ok value) = if bytes_eq value.key_id header.field.key_id then sealed_in header value.server_value else Err KeyDiffers
+value_of header (Err fault) = Err (indexed_refusal fault)
+
 -- the value that is stored
 unfoldable pub value_in : Header → List ℕ → Result ℤ OpenFault
-value_in header stored =
-    value_sent header.field.key header.field.key_id (deciphered (server_cipher_of (root_key_of header.field.key)) stored)
+value_in header stored = value_of header (indexed_at stored)
 
 -- the documents that are stored, or the fault of the first that isn't opened
 unfoldable pub documents_in : Header → List Stored → Result (List Document) OpenFault

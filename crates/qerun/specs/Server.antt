@@ -4,7 +4,8 @@ use Rattle.std.specs.List.{list_any, range_with_len}
 use Rattle.std.specs.Ordering.{int_eq}
 use Rattle.std.specs.Str.{bytes_eq}
 use Rattle.qe_tokens.specs.Tokens.{esc_tag_of, edc_twice_of, position_of, document_tag_of}
-use Rattle.qerun.specs.Stored.{server_value}
+use Rattle.qe_indexed.specs.Layout.{IsLaidOut}
+use Rattle.qerun.specs.Stored.{indexed_of}
 use Rattle.qerun.specs.declared.answer.Answer.{Answer}
 use Rattle.qerun.specs.declared.answer.Answer.TheVariants as answer
 use Rattle.qerun.specs.declared.request.Payload.{Payload}
@@ -12,6 +13,7 @@ use Rattle.qerun.specs.declared.request.Request.{Request}
 use Rattle.qerun.specs.declared.request.Request.TheVariants.{Insert, Find, Ids}
 use Rattle.qerun.specs.declared.request.WordTokens.{WordTokens}
 use Rattle.qerun.specs.declared.server.Server.{Server}
+use Rattle.qerun.specs.declared.stored.ServerIvs.{ServerIvs}
 use Rattle.qerun.specs.declared.stored.Stored.{Stored}
 
 -- the identifier of a word's position row
@@ -38,14 +40,15 @@ tags_to tokens count = map (λ k. tag_id tokens (k + 1)) (range_with_len 0 count
 abbrev pub tagged_among : List (List ℕ) → List Stored → List Stored
 tagged_among tags documents = filter (λ d. list_any (λ tag. bytes_eq tag d.tag) tags) documents
 
--- an insert adds the next position, and a document with that value's tag and the value under the server's cipher
-pub record Adds (iv : List ℕ) (old new : Server) (id : ℤ) (payload : Payload) : Type 0 where
+-- an insert adds the next position, and a document with that value's tag and its indexed value
+pub record Adds (ivs : ServerIvs) (old new : Server) (id : ℤ) (payload : Payload) : Type 0 where
   pub fresh : has_stored old.documents id ≡ false
   pub count : ℕ
   pub counted : IsCount old.rows payload.tokens count
   pub row : new.rows ≡ old.rows ++ row_id payload.tokens (count + 1) ∷ []
-  pub document : new.documents ≡ old.documents
-      ++ record { id = id; tag = tag_id payload.tokens (count + 1); value = server_value payload.cipher.0 iv payload.value } ∷ []
+  pub value : List ℕ
+  pub indexed : IsLaidOut (indexed_of payload (count + 1) ivs) value
+  pub document : new.documents ≡ old.documents ++ record { id = id; tag = tag_id payload.tokens (count + 1); value = value } ∷ []
 
 -- a search finds the documents that have one of the tags counted
 pub record Finds (server : Server) (tokens : WordTokens) (found : List Stored) : Type 0 where
@@ -58,10 +61,10 @@ pub record FindsIds (server : Server) (tokens : WordTokens) (ids : List ℤ) : T
   pub finds : Finds server tokens found
   pub named : ids ≡ map (λ d. d.id) found
 
--- a request and the IV for the server's cipher, the server before and after it, and the answer
-abbrev pub Serves : Request → List ℕ → Server → Server → Answer → Type 0
-Serves (Insert id payload) iv old new answer.Duplicate = (has_stored old.documents id ≡ true) × (new ≡ old)
-Serves (Insert id payload) iv old new answer.Inserted = Adds iv old new id payload
-Serves (Find tokens) iv old new (answer.Found found) = (new ≡ old) × Finds old tokens found
-Serves (Ids tokens) iv old new (answer.Ids ids) = (new ≡ old) × FindsIds old tokens ids
-Serves _ iv old new _ = ⊥
+-- a request and the server's IVs, the server before and after it, and the answer
+abbrev pub Serves : Request → ServerIvs → Server → Server → Answer → Type 0
+Serves (Insert id payload) ivs old new answer.Duplicate = (has_stored old.documents id ≡ true) × (new ≡ old)
+Serves (Insert id payload) ivs old new answer.Inserted = Adds ivs old new id payload
+Serves (Find tokens) ivs old new (answer.Found found) = (new ≡ old) × Finds old tokens found
+Serves (Ids tokens) ivs old new (answer.Ids ids) = (new ≡ old) × FindsIds old tokens ids
+Serves _ ivs old new _ = ⊥

@@ -1,23 +1,26 @@
 ghost use Rattle.std.specs.Prelude.{◌≡◌, IfOk};
 ghost use Rattle.qe_script.specs.declared.script.Header.{Header};
+ghost use Rattle.qerun.specs.Draws.{draws_key, server_ivs_at};
 ghost use Rattle.qerun.specs.Words.{item_of};
 ghost use Rattle.qerun.specs.Client.{IsClientOf, HasBytes, IsSent, Sends, tokens_of};
-ghost use Rattle.qerun.specs.Opening.{Opens, int32_of, value_in, documents_in, reply_to};
+ghost use Rattle.qerun.specs.Opening.{Opens, int32_of, sealed_in, value_in, documents_in, reply_to};
 
 use crate::answer::Answer;
 use crate::document::Document;
-use crate::draws::{Draws, SEALED_IV, SERVER_IV};
+use crate::draws::{Draws, SEALED_IV};
 use crate::opening::{OpenFault, int32};
 use crate::pieces::{are_bytes, is_block};
 use crate::reply::Reply;
 use crate::request::{Payload, Request, WordTokens};
-use crate::stored::{Stored, deciphered};
+use crate::stored::{ServerIvs, Stored, deciphered};
 use qe_base::{Bytes, Listing, NoMemory};
+use qe_indexed::IndexedValue;
 use qe_script::{Command, Header};
 use qe_seal::{seal, unseal};
 use qe_tokens::{
-    EdcToken, EscToken, ServerDataLevel1, collections, edc, edc_contention, edc_derived, esc,
-    esc_contention, esc_derived, root_key, server_cipher,
+    EdcToken, EscToken, ServerDataLevel1, ServerTokenLevel1, collections, edc, edc_contention,
+    edc_derived, esc, esc_contention, esc_derived, root_key, server_cipher, server_derived,
+    server_token,
 };
 use std::alloc::Global;
 
@@ -28,6 +31,7 @@ pub struct Client {
     key_id: [u8; 16],
     edc: EdcToken,
     esc: EscToken,
+    server: ServerTokenLevel1,
     cipher: ServerDataLevel1,
     draws: Draws,
 }
@@ -47,6 +51,7 @@ impl Client {
             key_id: header.field.key_id,
             edc: edc(&level),
             esc: esc(&level),
+            server: server_token(&root),
             cipher: server_cipher(&root),
             draws: Draws::of(&header.seed),
         }
@@ -70,9 +75,11 @@ impl Client {
         }
     }
 
-    /// The IV for the server's cipher of the command of this number.
-    pub fn server_iv(&self, number: u64) -> [u8; 16] {
-        self.draws.iv(number, SERVER_IV)
+    /// The server's IVs for the command of this number.
+    pub fn server_ivs(&self, number: u64) -> ServerIvs
+        ensures { (header : Header) → IsClientOf header self.now → result ≡ server_ivs_at (draws_key header.seed) number }
+    {
+        self.draws.server_ivs(number)
     }
 
     /// The reply that an answer holds, each value opened.
@@ -110,7 +117,9 @@ impl Client {
         value.extend(sealed.slice())?;
         Ok(Payload {
             tokens: self.tokens(item),
+            server: server_derived(&self.server, item),
             cipher: self.cipher,
+            key_id: self.key_id,
             value,
         })
     }
@@ -131,7 +140,18 @@ impl Client {
     fn open(&self, alloc: Global, stored: &[u8]) -> Result<i32, OpenFault>
         ensures { (header : Header) → IsClientOf header self.now → Opens result (value_in header stored.now) }
     {
-        let sent = deciphered(alloc, &self.cipher, stored)?;
+        let value = IndexedValue::read(alloc, stored)?;
+        if value.key_id != self.key_id {
+            return Err(OpenFault::KeyDiffers);
+        }
+        self.unsealed(alloc, value.server_value.slice())
+    }
+
+    // The value that was sealed.
+    fn unsealed(&self, alloc: Global, server_value: &[u8]) -> Result<i32, OpenFault>
+        ensures { (header : Header) → IsClientOf header self.now → Opens result (sealed_in header server_value.now) }
+    {
+        let sent = deciphered(alloc, &self.cipher, server_value)?;
         let Some(sealed) = sent.as_slice().strip_prefix(self.key_id.as_slice()) else {
             return Err(OpenFault::KeyDiffers);
         };

@@ -1,8 +1,9 @@
 ghost use Rattle.std.specs.Prelude.{◌≡◌, ◌+◌, ◌^◌, ◌<◌};
 ghost use Rattle.std.specs.Int.{w32, to_le_bytes};
 ghost use Rattle.rand_chacha.specs.ChaCha.{word_at, key_of};
-ghost use Rattle.qerun.specs.Draws.{draws_key, iv_at};
+ghost use Rattle.qerun.specs.Draws.{draws_key, iv_at, server_ivs_at};
 
+use crate::stored::ServerIvs;
 use qe_seal::hmac;
 use rand_chacha::ChaCha20Rng;
 use rand_core::SeedableRng;
@@ -14,8 +15,12 @@ const CALLER: &[u8] = b"a";
 /// The place of the IV of a sealed value in its command's words. Two words stand before it, for a contention factor.
 pub const SEALED_IV: u64 = 2;
 
-/// The place of the server's first IV. The IV of the ECOC row stands before it.
-pub const SERVER_IV: u64 = 10;
+/// The places of the server's IVs. The IV of the ECOC row stands before them.
+const SERVER_IV: u64 = 10;
+
+const NUMBERS_IV: u64 = 14;
+
+const ZEROS_IV: u64 = 18;
 
 /// The random words of a caller: a stream of ChaCha20 for each of its commands.
 #[derive(Clone, Copy)]
@@ -31,6 +36,18 @@ impl Draws {
     {
         Draws {
             key: hmac(seed, CALLER),
+        }
+    }
+
+    /// The IVs for the server of a command.
+    #[tactic(auto, unfolding(crate::specs::Draws::server_ivs_at))]
+    pub fn server_ivs(&self, command: u64) -> ServerIvs
+        ensures { result ≡ server_ivs_at self.now.key command }
+    {
+        ServerIvs {
+            value: self.iv(command, SERVER_IV),
+            numbers: self.iv(command, NUMBERS_IV),
+            zeros: self.iv(command, ZEROS_IV),
         }
     }
 

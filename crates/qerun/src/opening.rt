@@ -3,12 +3,15 @@ ghost use Rattle.qerun.specs.Opening.{int32_of};
 
 use crate::pieces::array_at;
 use qe_base::NoMemory;
+use qe_indexed::IndexedFault;
 use qe_seal::SealFault;
 
 /// Why a stored value isn't opened: the first of these that holds.
 #[derive(Clone, Copy, Debug, PartialEq, Eq)]
 pub enum OpenFault {
-    /// It doesn't begin with the number of the field's data key.
+    /// It is no indexed value.
+    Indexed(IndexedFault),
+    /// Its key's number, or the one that its sealed value begins with, isn't that of the field's data key.
     KeyDiffers,
     /// Its seal is refused.
     Seal(SealFault),
@@ -26,6 +29,20 @@ impl From<NoMemory> for OpenFault {
 
     fn from(_: NoMemory) -> Self {
         OpenFault::NoMemory
+    }
+}
+
+impl From<IndexedFault> for OpenFault {
+    ghost use Rattle.std.specs.Prelude.{◌≡◌};
+    ghost use Rattle.qerun.specs.Opening.{indexed_refusal};
+
+    ghost from_gives = { λ cause fault. fault ≡ indexed_refusal cause };
+
+    fn from(cause: IndexedFault) -> Self {
+        match cause {
+            IndexedFault::NoMemory => OpenFault::NoMemory,
+            other => OpenFault::Indexed(other),
+        }
     }
 }
 

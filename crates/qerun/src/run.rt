@@ -23,7 +23,7 @@ pub fn run(alloc: Global, header: &Header, commands: &[Command]) -> Result<Listi
     for command in commands {
         let number = replies.len() as u64;
         let request = client.request(alloc, number, *command)?;
-        let answer = server.serve(alloc, &request, &client.server_iv(number))?;
+        let answer = server.serve(alloc, &request, &client.server_ivs(number))?;
         match client.reply(alloc, answer) {
             Ok(reply) => replies.push(reply)?,
             Err(fault) => {

@@ -1,11 +1,11 @@
-ghost use Rattle.std.specs.Prelude.{◌≡◌, ◌-◌, ◌^◌, ◌<◌, ◌↔◌, [], false, Contains, IsTrue, IfOk, OnOk, map};
+ghost use Rattle.std.specs.Prelude.{◌≡◌, ◌-◌, ◌^◌, ◌<◌, ◌↔◌, [], false, Contains, IsTrue, IfOk, OnOk, length, map};
 ghost use Rattle.std.specs.List.{list_any};
 ghost use Rattle.std.specs.Str.{bytes_eq};
 ghost use Rattle.qerun.specs.Server.{IsCount, Serves, Adds, Finds, FindsIds, has_stored, tags_to, tagged_among};
 
 use crate::answer::Answer;
 use crate::request::{Payload, Request, WordTokens};
-use crate::stored::{Stored, server_value};
+use crate::stored::{ServerIvs, Stored, indexed_value};
 use qe_base::{Duplicate, Ids, Listing, NoMemory, Tags};
 use qe_tokens::{document_tag, edc_twice, esc_tag, position_id};
 use std::alloc::Global;
@@ -28,21 +28,22 @@ impl Server {
         }
     }
 
-    /// Does what is asked, and answers it. A value is enciphered once more, under this IV.
+    /// Does what is asked, and answers it. A value is enciphered once more and indexed, under these IVs.
     pub fn serve(
         &mut self,
         alloc: Global,
         request: &Request,
-        iv: &[u8; 16],
+        ivs: &ServerIvs,
     ) -> Result<Answer, NoMemory>
-        ensures { IfOk result (Serves request.now iv.now self.old self.new) }
+        requires { length ivs.now.value ≡ 16 }
+        ensures { IfOk result (Serves request.now ivs.now self.old self.new) }
     {
         match request {
             Request::Insert { id, payload } => {
                 if has_stored(self.documents.slice(), *id) {
                     return Ok(Answer::Duplicate);
                 }
-                self.add(alloc, *id, payload, iv)?;
+                self.add(alloc, *id, payload, ivs)?;
                 Ok(Answer::Inserted)
             }
             Request::Find { tokens } => {
@@ -56,21 +57,22 @@ impl Server {
         }
     }
 
-    // Adds the next position of a word, and a document with that value's tag and the value enciphered.
+    // Adds the next position of a word, and a document with that value's tag and its indexed value.
     fn add(
         &mut self,
         alloc: Global,
         id: i32,
         payload: &Payload,
-        iv: &[u8; 16],
+        ivs: &ServerIvs,
     ) -> Result<(), NoMemory>
-        requires { has_stored self.old.documents id ≡ false }
-        ensures { OnOk result (Adds iv.now self.old self.new id payload.now) }
+        requires fresh { has_stored self.old.documents id ≡ false }
+        requires long { length ivs.now.value ≡ 16 }
+        ensures { OnOk result (Adds ivs.now self.old self.new id payload.now) }
     {
         let number = count_positions(self.rows.slice(), &payload.tokens) + 1;
         let row = position_id(&esc_tag(&payload.tokens.esc), number);
         let tag = document_tag(&edc_twice(&payload.tokens.edc), number);
-        let value = server_value(alloc, &payload.cipher, iv, payload.value.slice())?;
+        let value = indexed_value(alloc, payload, number, ivs)?;
         self.rows.push(row)?;
         self.documents.push(Stored { id, tag, value })?;
         Ok(())

@@ -1,21 +1,27 @@
-ghost use Rattle.std.specs.Prelude.{◌≡◌, IfOk};
-ghost use Rattle.qerun.specs.Stored.{server_value, deciphered};
+ghost use Rattle.std.specs.Prelude.{◌≡◌, length, IfOk};
+ghost use Rattle.qe_indexed.specs.Layout.{IsLaidOut};
+ghost use Rattle.qerun.specs.Stored.{server_value, deciphered, indexed_of};
 
 use crate::pieces::array_at;
+use crate::request::Payload;
 use qe_aes::ctr;
 use qe_base::{Bytes, Duplicate, NoMemory};
-use qe_tokens::ServerDataLevel1;
+use qe_indexed::{Block, Blocks, IndexedValue, make_block};
+use qe_tokens::{ServerDataLevel1, edc_twice};
 use std::alloc::Global;
 
 /// The length of an IV, in bytes.
 const IV_LEN: usize = 16;
+
+/// The number of BSON's type int32.
+const INT32: u8 = 16;
 
 /// A document as the server keeps it.
 #[derive(Drop)]
 pub struct Stored {
     pub id: i32,
     pub tag: [u8; 32],
-    /// The server-encrypted value: an IV of 16 bytes, and the cipher of what was sent.
+    /// The indexed value.
     pub value: Bytes,
 }
 
@@ -30,9 +36,55 @@ impl Duplicate for Stored {
     }
 }
 
+/// The IVs of an indexed value of one block.
+#[derive(Clone, Copy)]
+pub struct ServerIvs {
+    pub value: [u8; 16],
+    pub numbers: [u8; 16],
+    pub zeros: [u8; 16],
+}
+
+/// The bytes of the indexed value of the `count`-th insert of a word: an equality value with one block.
+pub fn indexed_value(
+    alloc: Global,
+    payload: &Payload,
+    count: u64,
+    ivs: &ServerIvs,
+) -> Result<Bytes, NoMemory>
+    requires { length ivs.now.value ≡ 16 }
+    ensures { IfOk result (IsLaidOut (indexed_of payload.now count ivs.now)) }
+{
+    let value = equality_value(alloc, payload, count, ivs)?;
+    let bytes = value.write(alloc)?;
+    Ok(bytes)
+}
+
+fn equality_value(
+    alloc: Global,
+    payload: &Payload,
+    count: u64,
+    ivs: &ServerIvs,
+) -> Result<IndexedValue, NoMemory>
+    requires { length ivs.now.value ≡ 16 }
+    ensures { IfOk result (λ value. value ≡ indexed_of payload.now count ivs.now) }
+{
+    let server_value = server_value(alloc, &payload.cipher, &ivs.value, payload.value.slice())?;
+    let edc = edc_twice(&payload.tokens.edc);
+    let block = make_block(count, 0, &edc, &payload.server, &[ivs.numbers, ivs.zeros]);
+    let mut blocks = Blocks::new(alloc);
+    blocks.push(Block(block))?;
+    Ok(IndexedValue {
+        range: false,
+        key_id: payload.key_id,
+        value_kind: INT32,
+        server_value,
+        blocks,
+    })
+}
+
 /// The IV, and the counter mode of the bytes under it.
 #[tactic(auto, unfolding(crate::specs::Stored::server_value))]
-pub fn server_value(
+fn server_value(
     alloc: Global,
     cipher: &ServerDataLevel1,
     iv: &[u8; 16],

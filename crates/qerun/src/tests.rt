@@ -3,9 +3,10 @@ use crate::client::Client;
 use crate::opening::OpenFault;
 use crate::reply::Reply;
 use crate::request::Request;
-use crate::stored::{Stored, server_value};
+use crate::stored::{Stored, indexed_value};
 use crate::top::replay;
 use qe_base::{Bytes, Listing, MemorySink, MemorySource, Status};
+use qe_indexed::IndexedFault;
 use qe_script::{Command, read_script};
 use qe_seal::SealFault;
 use std::alloc::Global;
@@ -74,7 +75,7 @@ const SENT: &str =
     "000000000000400080000000000000016dc37be2cf2c03c9a3e036d1b3af8e3116da5d9f83d308f1ba07cd4fe3efd05b341a24b0f11e78e493849094e01100787e320cf383b17ffeb3afc54d91e427d3";
 
 const KEPT: &str =
-    "9bc77aa578459cd825efda590111798c9b6166faf586450996072424f19f50bd542d17cad10a38f4ee494a5711b312a2b9201074d351b86ba19e81a9d9e4303b579bb87ee4e9d840ec3c9ec856b858bdad148cc3b31fdb9ca962b869579ad327";
+    "0e00000000000040008000000000000001109bc77aa578459cd825efda590111798c9b6166faf586450996072424f19f50bd542d17cad10a38f4ee494a5711b312a2b9201074d351b86ba19e81a9d9e4303b579bb87ee4e9d840ec3c9ec856b858bdad148cc3b31fdb9ca962b869579ad3275c5ffa99e5f0e23a3d0a3605deab31dc569599b30997b2aa75f0773649b8a1c9012884c28bbff67a8f5365eccdf170661daef8a6e231f34b9ca83d5e030bd301c50b8e2453b6a15ddc3ca98f81ef639f965f682717995989ada526b0629e2c1e";
 
 fn first_client(alloc: Global) -> Result<Client, Fail> {
     match read_script(alloc, HEADER) {
@@ -92,13 +93,7 @@ fn a_value_is_sealed_and_kept_as_another_program_does(rt: HostRuntime) -> Result
         return Err("no payload")?;
     };
     assert_eq!(rt; hex::encode(alloc, payload.value.slice())?.as_str(), SENT);
-    let kept = server_value(
-        alloc,
-        &payload.cipher,
-        &client.server_iv(3),
-        payload.value.slice(),
-    )
-    .map_err(|_| "no memory")?;
+    let kept = indexed_value(alloc, &payload, 1, &client.server_ivs(3)).map_err(|_| "no memory")?;
     assert_eq!(rt; hex::encode(alloc, kept.slice())?.as_str(), KEPT);
     Ok(())
 }
@@ -126,20 +121,28 @@ fn opened(alloc: Global, length: usize, changed: usize) -> Result<Result<i32, Op
 #[test]
 fn a_changed_value_is_not_opened(rt: HostRuntime) -> Result<(), Fail> {
     let alloc = rt.alloc();
-    assert_eq!(rt; opened(alloc, 96, 96)?, Ok(5));
-    for (length, changed) in [(96, 16), (31, 96), (16, 96), (3, 96), (0, 96)] {
+    assert_eq!(rt; opened(alloc, 210, 210)?, Ok(5));
+    assert_eq!(rt;
+        opened(alloc, 210, 0)?,
+        Err(OpenFault::Indexed(IndexedFault::LengthWrong))
+    );
+    assert_eq!(rt;
+        opened(alloc, 129, 210)?,
+        Err(OpenFault::Indexed(IndexedFault::Short))
+    );
+    for (length, changed) in [(210, 1), (210, 34), (145, 210), (130, 210)] {
         assert_eq!(rt; opened(alloc, length, changed)?, Err(OpenFault::KeyDiffers));
     }
-    for changed in [32, 63, 95] {
+    for changed in [50, 81, 113] {
         assert!(rt;
             matches!(
-                opened(alloc, 96, changed)?,
+                opened(alloc, 210, changed)?,
                 Err(OpenFault::Seal(SealFault::MacDiffers { .. }))
             )
         );
     }
     assert_eq!(rt;
-        opened(alloc, 95, 96)?,
+        opened(alloc, 209, 210)?,
         Err(OpenFault::Seal(SealFault::TooShort))
     );
     Ok(())

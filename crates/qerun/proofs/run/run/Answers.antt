@@ -1,4 +1,5 @@
-use Rattle.std.proofs.Common.{length, ◌≡◌, arith, rules, sym, ◌∙◌}
+use Rattle.std.proofs.Common.{length, ◌≡◌, arith, sym, ◌∙◌}
+use Rattle.qerun.proofs.DrawLemmas.{length-server_iv}
 use Rattle.qerun.proofs.OpeningLemmas.{only_memory}
 use Rattle.qerun.proofs.RunLemmas.{reached_start, reached_at, kept_at}
 use Rattle.qerun.proofs.run.run.Goals as goal
@@ -15,14 +16,14 @@ pub loop-command-preserved : goal.loop-command-preserved
 loop-command-preserved c =
     let header = c.args.header.now in
     let sends = c.in_ok-request.ensures header c.loop-command.invariant.0 in
-    let long : length c.server_iv.result ≡ 16 = search rules in
+    let long : length c.server_ivs.result.value ≡ 16 = rw (c.server_ivs.ensures header c.loop-command.invariant.0) (length-server_iv _ _) in
     let kept =
-    kept_at header _ c.server_iv.result c.args.commands.now c.loop-command.command-index _ c.in_ok-request.request c.loop-command.server c.serve.new.self
+    kept_at header _ c.server_ivs.result c.args.commands.now c.loop-command.command-index _ c.in_ok-request.request c.loop-command.server c.serve.new.self
     c.in_ok-answer.answer c.new-client.ensures.bytes long c.requires c.loop-command-test.true c.loop-command.invariant.1 sends c.in_ok-answer.ensures in (
       c.loop-command.invariant.0,
       kept.all,
       λ clear. rw (c.in_ok-push-in-Ok.ensures.ok)
-          (reached_at header _ c.server_iv.result c.args.commands.now c.loop-command.command-index _ c.in_ok-request.request c.loop-command.replies
+          (reached_at header _ c.server_ivs.result c.args.commands.now c.loop-command.command-index _ c.in_ok-request.request c.loop-command.replies
           c.loop-command.server c.serve.new.self c.in_ok-answer.answer c.in-Ok.reply c.new-client.ensures.bytes long c.requires clear (omega arith)
           c.loop-command-test.true (c.loop-command.invariant.2 clear) sends c.in_ok-answer.ensures (c.in-Ok.ensures header c.loop-command.invariant.0)),
     )
@@ -31,9 +32,9 @@ pub prove-unreachable-requires : goal.prove-unreachable-requires
 prove-unreachable-requires c =
     let header = c.args.header.now in
     let sends = c.in_ok-request.ensures header c.loop-command.invariant.0 in
-    let long : length c.server_iv.result ≡ 16 = search rules in
+    let long : length c.server_ivs.result.value ≡ 16 = rw (c.server_ivs.ensures header c.loop-command.invariant.0) (length-server_iv _ _) in
     let kept =
-    kept_at header _ c.server_iv.result c.args.commands.now c.loop-command.command-index _ c.in_ok-request.request c.loop-command.server c.serve.new.self
+    kept_at header _ c.server_ivs.result c.args.commands.now c.loop-command.command-index _ c.in_ok-request.request c.loop-command.server c.serve.new.self
     c.in_ok-answer.answer c.new-client.ensures.bytes long c.requires c.loop-command-test.true c.loop-command.invariant.1 sends c.in_ok-answer.ensures in
     let memory = only_memory c.in-Err.fault _ kept.reply (c.in-Err.ensures header c.loop-command.invariant.0) kept.is_reply in
     elim c.match-matches.branch [

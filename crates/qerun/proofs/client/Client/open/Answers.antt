@@ -1,41 +1,31 @@
-use Rattle.std.proofs.Common.{◌≡◌, length, false, true, take, drop, sym, ap, ◌∙◌, rules}
+use Rattle.std.proofs.Common.{◌≡◌, false, true, sym, ap, ◌∙◌}
 use Rattle.std.proofs.lemmas.Result.{err_from_is_err_and}
 use Rattle.std.specs.Str.{bytes_eq}
-use Rattle.qe_seal.specs.Sealed.{opened_value}
-use Rattle.qerun.specs.Opening.{int32_of, unsealed, value_in}
-use Rattle.qerun.proofs.OpeningLemmas.{opens, opens_seal, value_in-sent, value_sent-other, value_sent-own}
+use Rattle.qe_indexed.specs.Cut.{indexed_at}
+use Rattle.qe_indexed.specs.Parts.{Indexed}
+use Rattle.qerun.specs.Opening.{value_in}
+use Rattle.qerun.proofs.OpeningLemmas.{opens_indexed, value_in-own, value_in-other, differ_from_not, same_from_not}
 use Rattle.qerun.proofs.client.Client.open.Goals as goal
 
-pub returns-in_default : goal.returns-in_default
-returns-in_default c header is =
-    let client = c.args.self.now in
-    let sent = c.in_ok-sent.sent.items in
-    let long : length client.key_id ≡ 16 = search rules in
-    let differs : bytes_eq (take 16 sent) client.key_id ≡ false = rw (c.as_slice.ensures.value, c.as_slice-2.ensures, long) at (c.in_default.ensures.cases) in
-    sym (value_in-sent header client.key client.key_id client.cipher.0 c.args.stored.now sent is.key is.key_id is.cipher c.in_ok-sent.ensures
-    ∙ value_sent-other client.key client.key_id sent differs)
+pub returns-in_err-value : goal.returns-in_err-value
+unfolding value_in
+returns-in_err-value c header is =
+    let p = err_from_is_err_and c.from_residual.result c.from_residual.ensures.1 in
+    rw (p.1, p.2) (opens_indexed header c.in_err-value.field-0.0 (indexed_at c.args.stored.now) c.in_err-value.ensures.exact)
 
-pub returns-in_err-plain : goal.returns-in_err-plain
-returns-in_err-plain c header is =
-    let client = c.args.self.now in
-    let sent = c.in_ok-sent.sent.items in
-    let long : length client.key_id ≡ 16 = search rules in
-    let same : bytes_eq (take 16 sent) client.key_id ≡ true = rw (c.as_slice.ensures.value, c.as_slice-2.ensures, long) at (c.in-Some.ensures.cases.0) in
-    let rest : c.in-Some.sealed.now ≡ drop 16 sent = rw (c.as_slice.ensures.value, c.as_slice-2.ensures, long) at (c.in-Some.ensures.cases.1) in
-    let p = err_from_is_err_and c.from_residual-in_err-plain.result c.from_residual-in_err-plain.ensures.1 in
-    let due : value_in header c.args.stored.now ≡ unsealed (opened_value client.key client.key_id c.in-Some.sealed.now) =
-    value_in-sent header client.key client.key_id client.cipher.0 c.args.stored.now sent is.key is.key_id is.cipher c.in_ok-sent.ensures
-    ∙ value_sent-own client.key client.key_id sent same ∙ ap (λ s. unsealed (opened_value client.key client.key_id s)) (sym rest) in
-    rw (p.1, p.2, due) (opens_seal c.in_err-plain.field-0.0 _ c.in_err-plain.ensures)
+pub returns-then-ne : goal.returns-then-ne
+returns-then-ne c header is =
+    let value = c.in_ok-value.value in
+    let own = ap (λ (v : Indexed). v.key_id) c.value.view_is in
+    let differ : bytes_eq value.key_id header.field.key_id ≡ false =
+    differ_from_not _ (rw (own, is.key_id) at (c.if-ne.ensures)) in
+    sym (value_in-other header c.args.stored.now value (sym c.in_ok-value.ensures.exact) differ)
 
 pub returns : goal.returns
 returns c header is =
-    let client = c.args.self.now in
-    let sent = c.in_ok-sent.sent.items in
-    let long : length client.key_id ≡ 16 = search rules in
-    let same : bytes_eq (take 16 sent) client.key_id ≡ true = rw (c.as_slice.ensures.value, c.as_slice-2.ensures, long) at (c.in-Some.ensures.cases.0) in
-    let rest : c.in-Some.sealed.now ≡ drop 16 sent = rw (c.as_slice.ensures.value, c.as_slice-2.ensures, long) at (c.in-Some.ensures.cases.1) in
-    let due : value_in header c.args.stored.now ≡ unsealed (opened_value client.key client.key_id c.in-Some.sealed.now) =
-    value_in-sent header client.key client.key_id client.cipher.0 c.args.stored.now sent is.key is.key_id is.cipher c.in_ok-sent.ensures
-    ∙ value_sent-own client.key client.key_id sent same ∙ ap (λ s. unsealed (opened_value client.key client.key_id s)) (sym rest) in
-    opens c.int32.result _ (sym (due ∙ ap unsealed (sym c.in_ok-plain.ensures) ∙ sym (c.int32.ensures ∙ ap int32_of c.slice.ensures)))
+    let value = c.in_ok-value.value in
+    let own = ap (λ (v : Indexed). v.key_id) c.value.view_is in
+    let same : bytes_eq value.key_id header.field.key_id ≡ true =
+    same_from_not _ (rw (own, is.key_id) at (sym c.if-ne.false ∙ c.ne.ensures)) in
+    let sealed = c.slice.ensures ∙ ap (λ (v : Indexed). v.server_value) c.value.view_is in
+    rw (value_in-own header c.args.stored.now value (sym c.in_ok-value.ensures.exact) same) (rw sealed at (c.unsealed.ensures header is))

@@ -1,0 +1,81 @@
+-- The parts that bytes are cut into are those of the value that they are laid out as.
+use Rattle.std.proofs.Common.{◌≡◌, ℕ, ◌+◌, ◌*◌, ◌-◌, ◌≤◌, List, [], ◌∷◌, ◌++◌, length, take, drop, get_or, refl, ap, sym, ◌∙◌, arith, Bool, true, false, ◌==◌, if◌then◌else◌, Option, Some, None, Result, Ok, Err, length-drop, subst}
+use Rattle.std.specs.Prelude.{slice_index}
+use Rattle.std.proofs.lemmas.List.{take_at, drop_at, drop-drop, drop_more, get_or-append_right}
+use Rattle.qe_indexed.specs.declared.fault.IndexedFault.{IndexedFault}
+use Rattle.qe_indexed.specs.declared.fault.IndexedFault.TheVariants.{NoMemory, Short, BlobSubtype, EdgeCountZero, LengthWrong}
+use Rattle.qe_indexed.specs.Parts.{Indexed, most_blocks}
+use Rattle.qe_indexed.specs.Layout.{first_byte, edge_count, joined, head_length, IsLaidOut, HasShape}
+use Rattle.qe_indexed.specs.Refusal.{refusal_of, Checks, IsRefusal}
+use Rattle.qe_indexed.specs.Cut.{blocks_in, parts_by, is_range, count_in, unless_refused, indexed_at, Answers}
+use Rattle.qe_indexed.proofs.JoinLemmas.{AreBlocks-blocks_in}
+use Rattle.qe_indexed.proofs.LayoutLemmas.{tail_of, written-parts, length-written, IsLaidOut-cut, IsLaidOut-one}
+use Rattle.qe_indexed.proofs.LawLemmas.{accepted}
+
+length-edges : (range : Bool) (count : ℕ) → length (edge_count range count) ≡ head_length range - 18
+length-edges false count = refl
+length-edges true count = refl
+
+-- the bytes of a value have its shape
+shape_of : (value : Indexed) (bytes : List ℕ) → IsLaidOut value bytes → HasShape value.range (length value.blocks) bytes
+shape_of value bytes is =
+    let front = first_byte value.range ∷ value.key_id in
+    let parts : bytes ≡ front ++ (value.value_kind ∷ tail_of value) = is.bytes_are ∙ written-parts value in
+    let front_long : length front ≡ 17 = omega (arith, is.key_id_long) in
+    let behind : drop 18 bytes ≡ tail_of value =
+    sym (drop-drop 1 17 bytes) ∙ ap (λ bs. drop 1 (drop 17 bs)) parts ∙ ap (drop 1) (drop_at front (value.value_kind ∷ tail_of value) 17 front_long) in
+    let long = ap length is.bytes_are ∙ length-written value is.key_id_long is.blocks_long in
+    record {
+      first = ap (take 1) parts;
+      counted =
+          ap (take (head_length value.range - 18)) behind
+          ∙ take_at (edge_count value.range (length value.blocks)) (value.server_value ++ joined value.blocks) (head_length value.range - 18)
+          (length-edges value.range (length value.blocks));
+      some = is.within.some;
+      few = is.within.few;
+      long = omega (arith, long, is.within.long);
+    }
+
+-- the first byte tells the kind
+is_range-first : (range : Bool) (bytes : List ℕ) → slice_index bytes 0 ≡ first_byte range → is_range bytes ≡ range
+is_range-first false bytes first = ap (λ byte. byte == 15) first
+is_range-first true bytes first = ap (λ byte. byte == 15) first
+
+-- and so the number of blocks is known
+count_in-known : (range : Bool) (bytes : List ℕ) (count : ℕ) → is_range bytes ≡ range → take (head_length range - 18) (drop 18 bytes) ≡ edge_count range count
+    → 19 ≤ length bytes → (range ≡ false → count ≡ 1) → count_in bytes ≡ count
+count_in-known false bytes count kind counted long one = ap (λ range. if range then slice_index bytes 18 else 1) kind ∙ sym (one refl)
+count_in-known true bytes count kind counted long one =
+    ap (λ range. if range then slice_index bytes 18 else 1) kind
+    ∙ ap (λ bs. slice_index bs 0) (sym (ap (take 1) (drop_more bytes 18 0 long)) ∙ counted)
+
+-- the parts are the value's
+pub parts_are : (value : Indexed) (bytes : List ℕ) → IsLaidOut value bytes → indexed_at bytes ≡ Ok value
+unfolding indexed_at
+parts_are value bytes is =
+    let shape = shape_of value bytes is in
+    let count = length value.blocks in
+    let body = drop (head_length value.range) bytes in
+    let tail = drop (length body - 96 * count) body in
+    let tail_long : length tail ≡ 96 * count =
+    length-drop (length body - 96 * count) body ∙ omega (arith, length-drop (head_length value.range) bytes, shape.long) in
+    let cut : IsLaidOut (parts_by value.range count bytes) bytes =
+    IsLaidOut-cut value.range count bytes (take (head_length value.range) bytes) body (take (length body - 96 * count) body) tail _ _ (blocks_in count tail)
+    shape refl refl refl refl (AreBlocks-blocks_in count tail tail_long).0 refl refl in
+    let kind : is_range bytes ≡ value.range =
+    is_range-first value.range bytes
+    (ap (λ bs. slice_index bs 0) (sym (ap (take 1) (drop_more bytes 0 0 (omega (arith, shape.long)))) ∙ shape.first)) in
+    let counted : count_in bytes ≡ count = count_in-known value.range bytes count kind shape.counted (omega (arith, shape.long))
+    (λ equality. omega (arith, is.within.some, is.within.few, ap most_blocks equality)) in
+    ap (λ due. unless_refused due (parts_by (is_range bytes) (count_in bytes) bytes)) (accepted value bytes is)
+    ∙ ap (λ range. Ok (parts_by range (count_in bytes) bytes)) kind ∙ ap (λ n. Ok (parts_by value.range n bytes)) counted
+    ∙ ap Ok (IsLaidOut-one (parts_by value.range count bytes) value bytes cut is)
+
+-- a refusal is answered where it is due
+pub refused : (fault : IndexedFault) (bytes : List ℕ) → IsRefusal fault (refusal_of bytes) → Answers (Err fault) (indexed_at bytes)
+unfolding indexed_at
+refused Short bytes due = rw due
+refused (BlobSubtype first) bytes due = rw due
+refused EdgeCountZero bytes due = rw due
+refused LengthWrong bytes due = rw due
+refused NoMemory bytes due = tt
