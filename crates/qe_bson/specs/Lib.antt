@@ -1,5 +1,10 @@
 pub mod Answers
 pub mod Falls
+pub mod JsonAnswers
+pub mod JsonForms
+pub mod JsonReading
+pub mod JsonRound
+pub mod JsonWriting
 pub mod Names
 pub mod Reading
 pub mod Seen

@@ -199,6 +199,14 @@ impl Document {
         }
     }
 
+    /// The document of these fields, whose names are distinct.
+    pub(crate) fn from_fields(fields: Vec<(Text, Value)>) -> Document
+        requires { Distinct fields.items }
+        ensures { result ≡ map field_view fields.items }
+    {
+        Document { fields }
+    }
+
     /// The number of fields.
     pub fn len(&self) -> usize
         ensures count { result ≡ length self.now }

@@ -1,0 +1,110 @@
+-- The JSON data of a value. Doubles, decimals and timestamps have none.
+use Rattle.std.specs.Prelude.{ℕ, ℤ, Bool, true, false, ◌||◌, List, [], ◌∷◌, map, codes, Result, Ok, Err}
+use Rattle.std.specs.Fmt.{signed_decimal}
+use Rattle.base64.specs.Engines.{standard}
+use Rattle.base64.specs.GeneralPurpose.{encode_of}
+use Rattle.hex.specs.Hex.{encode_lower}
+use Rattle.serde_json.specs.Data.{Data, null, boolean, number, string, array, object, Members, no_members, member, put}
+use Rattle.serde_json.specs.Find.{of_integer}
+use Rattle.serde_json.specs.View.{items_of}
+use Rattle.qe_bson.specs.declared.value.Plain.{Plain, fold-Plain}
+use Rattle.qe_bson.specs.declared.value.Plain.TheOpen.{Plain-F}
+use Rattle.qe_bson.specs.declared.value.Value.{Value}
+use Rattle.qe_bson.specs.declared.value.Value.TheVariants as v
+use Rattle.qe_bson.specs.declared.extended_json.fault.JsonFault.{JsonFault}
+use Rattle.qe_bson.specs.declared.extended_json.fault.JsonFault.TheVariants.{Unprintable}
+use Rattle.qe_bson.specs.JsonReading.{then}
+
+-- `{"NAME":DATA}`
+abbrev pub only : List ℕ → Data → Data
+only name d = object (member name d no_members)
+
+abbrev pub long : ℤ → Data
+long z = only (codes "$numberLong") (string (signed_decimal z))
+
+abbrev pub date : ℤ → Data
+date millis = only (codes "$date") (long millis)
+
+abbrev pub object_id : List ℕ → Data
+object_id id = only (codes "$oid") (string (encode_lower id))
+
+abbrev pub binary : ℕ → List ℕ → Data
+binary subtype bytes =
+    only (codes "$binary") (object (member (codes "base64") (string (encode_of standard bytes))
+    (member (codes "subType") (string (encode_lower (subtype ∷ []))) no_members)))
+
+-- all items, where each has one
+abbrev pub all_of : List (Result Data JsonFault) → Result (List Data) JsonFault
+all_of [] = Ok []
+all_of (v ∷ vs) = then (λ d. then (λ ds. Ok (d ∷ ds)) (all_of vs)) v
+
+-- members with these before them; names stand in rising byte order
+abbrev pub members_from : Members → List (List ℕ × Result Data JsonFault) → Result Members JsonFault
+members_from before [] = Ok before
+members_from before (f ∷ fs) = then (λ d. members_from (put f.0 d before) fs) f.1
+
+abbrev pub array_data : List Data → Result Data JsonFault
+array_data ds = Ok (array (items_of ds))
+
+abbrev pub object_data : Members → Result Data JsonFault
+object_data ms = Ok (object ms)
+
+abbrev pub json_array : List (Result Data JsonFault) → Result Data JsonFault
+json_array vs = then array_data (all_of vs)
+
+abbrev pub json_object : List (List ℕ × Result Data JsonFault) → Result Data JsonFault
+json_object fs = then object_data (members_from no_members fs)
+
+-- a value, with the JSON of what it holds
+abbrev pub json_step : Plain-F (Result Data JsonFault) → Result Data JsonFault
+json_step (Plain-F.Double bytes) = Err Unprintable
+json_step (Plain-F.Str text) = Ok (string text)
+json_step (Plain-F.Doc fs) = json_object fs
+json_step (Plain-F.Array vs) = json_array vs
+json_step (Plain-F.Binary subtype bytes) = Ok (binary subtype bytes)
+json_step (Plain-F.ObjectId id) = Ok (object_id id)
+json_step (Plain-F.Bool b) = Ok (boolean b)
+json_step (Plain-F.Date millis) = Ok (date millis)
+json_step Plain-F.Null = Ok null
+json_step (Plain-F.Int32 z) = Ok (number (of_integer z))
+json_step (Plain-F.Timestamp n) = Err Unprintable
+json_step (Plain-F.Int64 z) = Ok (long z)
+json_step (Plain-F.Decimal bytes) = Err Unprintable
+
+unfoldable pub json_of : Plain → Result Data JsonFault
+json_of = fold-Plain (Result Data JsonFault) json_step
+
+abbrev pub json_field : List ℕ × Plain → List ℕ × Result Data JsonFault
+json_field f = (f.0, json_of f.1)
+
+abbrev pub any_true : List Bool → Bool
+any_true [] = false
+any_true (b ∷ bs) = b || any_true bs
+
+-- whether a double, a decimal or a timestamp stands in the value
+abbrev pub formless_step : Plain-F Bool → Bool
+formless_step (Plain-F.Double bytes) = true
+formless_step (Plain-F.Decimal bytes) = true
+formless_step (Plain-F.Timestamp n) = true
+formless_step (Plain-F.Doc fs) = any_true (map (λ f. f.1) fs)
+formless_step (Plain-F.Array bs) = any_true bs
+formless_step _ = false
+
+unfoldable pub formless : Plain → Bool
+formless = fold-Plain Bool formless_step
+
+-- for private clauses: a value of the code, with the JSON of what it holds
+abbrev pub opened : Value → Plain-F (Result Data JsonFault)
+opened (v.Double bytes) = Plain-F.Double bytes
+opened (v.Str text) = Plain-F.Str text
+opened (v.Doc fs) = Plain-F.Doc (map json_field fs)
+opened (v.Array vs) = Plain-F.Array (map json_of vs)
+opened (v.Binary subtype bytes) = Plain-F.Binary subtype bytes
+opened (v.ObjectId id) = Plain-F.ObjectId id
+opened (v.Bool b) = Plain-F.Bool b
+opened (v.Date millis) = Plain-F.Date millis
+opened v.Null = Plain-F.Null
+opened (v.Int32 z) = Plain-F.Int32 z
+opened (v.Timestamp n) = Plain-F.Timestamp n
+opened (v.Int64 z) = Plain-F.Int64 z
+opened (v.Decimal bytes) = Plain-F.Decimal bytes
