@@ -1,0 +1,10 @@
+pub mod ElementLemmas
+pub mod ScanLemmas
+pub mod BlobLemmas
+pub mod EqualLemmas
+pub mod ArrayLemmas
+pub mod EdgeLemmas
+pub mod InsertLemmas
+pub mod PickedLemmas
+pub mod RangeLemmas
+pub mod RangeWrittenLemmas

@@ -1,0 +1,107 @@
+//! Find payloads of ranges that are written.
+
+ghost use Rattle.std.specs.Prelude.{◌≡◌, ◌≤◌, ◌≤ℤ◌, ◌++◌, pos, length, map, IfOk};
+ghost use Rattle.qe_bson.specs.Views.{plain};
+ghost use Rattle.qe_payload.specs.Insert.{extra_names, picked};
+ghost use Rattle.qe_payload.specs.Range.{find_edge_tree, inner_elements, head_elements, range_elements, written_range, HasLongFindEdge, AreFindEdges, IsInner, IsRange, IsRangeBlob};
+
+use crate::insert::carry_all;
+use crate::range::{FIRST, FIRST_OPERATOR, FindEdge, FindRange, SECOND_OPERATOR};
+use crate::written::{blob_of, bytes_of, put, put_binary};
+use qe_base::{Bytes, NoMemory};
+use qe_bson::{Document, EncodeFault, Value, Values};
+use std::alloc::Global;
+
+/// The blob of a payload, its elements in written order. `read_range` reads the payload again.
+///
+/// `cm` is 0 or more, `g` has at most 4,096 edges, and `extra` has only the names `sp`, `pn`, `tf`, `mn` and `mx`, in
+/// this order.
+#[tactic(auto, unfolding(crate::specs::Range::written_range))]
+pub fn write_range(alloc: Global, payload: &FindRange) -> Result<Bytes, EncodeFault>
+    requires factor { pos 0 ≤ℤ payload.now.cm }
+    requires edges { length payload.now.g ≤ 4096 }
+    requires extra { payload.now.extra ≡ picked extra_names payload.now.extra }
+    ensures written { IfOk result (λ blob. blob ≡ written_range payload.now) }
+    ensures again { IfOk result (λ blob. IsRangeBlob payload.now blob) }
+{
+    match document_of(alloc, payload) {
+        Ok(document) => blob_of(alloc, FIRST, &document),
+        Err(NoMemory) => Err(EncodeFault::NoMemory),
+    }
+}
+
+fn document_of(alloc: Global, payload: &FindRange) -> Result<Document, NoMemory>
+    requires factor { pos 0 ≤ℤ payload.now.cm }
+    requires edges { length payload.now.g ≤ 4096 }
+    requires extra { payload.now.extra ≡ picked extra_names payload.now.extra }
+    ensures elements { IfOk result (λ document. document ≡ range_elements payload.now) }
+    ensures is { IfOk result (λ document. IsRange payload.now document) }
+{
+    let inner = inner_of(alloc, payload)?;
+    let mut document = head_of(alloc, payload, inner)?;
+    carry_all(alloc, &payload.extra, &mut document)?;
+    Ok(document)
+}
+
+// The needed elements round the inner document.
+fn head_of(alloc: Global, payload: &FindRange, inner: Document) -> Result<Document, NoMemory>
+    ensures { IfOk result (λ document. document ≡ head_elements payload.now inner) }
+{
+    let mut document = Document::new(alloc);
+    put(alloc, &mut document, "payload", Value::Doc(inner))?;
+    put(
+        alloc,
+        &mut document,
+        "payloadId",
+        Value::Int32(payload.payload_id),
+    )?;
+    put(
+        alloc,
+        &mut document,
+        "firstOperator",
+        Value::Int32(FIRST_OPERATOR),
+    )?;
+    put(
+        alloc,
+        &mut document,
+        "secondOperator",
+        Value::Int32(SECOND_OPERATOR),
+    )?;
+    Ok(document)
+}
+
+fn inner_of(alloc: Global, payload: &FindRange) -> Result<Document, NoMemory>
+    requires factor { pos 0 ≤ℤ payload.now.cm }
+    requires edges { length payload.now.g ≤ 4096 }
+    ensures elements { IfOk result (λ document. document ≡ inner_elements payload.now) }
+    ensures is { IfOk result (λ document. IsInner payload.now.g payload.now.cm document) }
+{
+    let trees = trees_of(alloc, payload.g.slice())?;
+    let mut document = Document::new(alloc);
+    put(alloc, &mut document, "g", Value::Array(trees))?;
+    put(alloc, &mut document, "cm", Value::Int64(payload.cm))?;
+    Ok(document)
+}
+
+fn trees_of(alloc: Global, edges: &[FindEdge]) -> Result<Values, NoMemory>
+    ensures trees { IfOk result (λ trees. trees ≡ map find_edge_tree edges.now) }
+    ensures are { IfOk result (λ trees. AreFindEdges edges.now trees) }
+{
+    let mut trees = Values::new(alloc);
+    for i in 0..edges.len() {
+        let tree = edge_value(alloc, &edges[i])?;
+        trees.push(tree)?;
+    }
+    Ok(trees)
+}
+
+fn edge_value(alloc: Global, edge: &FindEdge) -> Result<Value, NoMemory>
+    ensures tree { IfOk result (λ tree. plain tree ≡ find_edge_tree edge.now) }
+    ensures long { IfOk result (λ _. HasLongFindEdge edge.now) }
+{
+    let mut document = Document::new(alloc);
+    put_binary(alloc, &mut document, "d", 0, bytes_of(&edge.d))?;
+    put_binary(alloc, &mut document, "s", 0, bytes_of(&edge.s))?;
+    put_binary(alloc, &mut document, "l", 0, bytes_of(&edge.l))?;
+    Ok(Value::Doc(document))
+}

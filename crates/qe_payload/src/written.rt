@@ -1,0 +1,65 @@
+//! Documents and blobs that are written.
+
+ghost use Rattle.std.specs.Prelude.{◌≡◌, ◌∷◌, [], ◌++◌, false, length, OnOk, IfOk};
+ghost use Rattle.qe_bson.specs.Names.{is_named};
+ghost use Rattle.qe_bson.specs.Spelling.{document_bytes};
+ghost use Rattle.qe_bson.specs.Views.{plain};
+ghost use Rattle.qe_bson.specs.declared.value.Plain.TheVariants as p;
+ghost use Rattle.qe_payload.specs.Blobs.{IsBlob};
+
+use qe_base::{Bytes, NoMemory, Text};
+use qe_bson::{Document, EncodeFault, PushFault, Value, encode};
+use std::alloc::Global;
+
+/// The bytes of an array, which are as many as its type says.
+pub(crate) fn bytes_of<const N: usize>(array: &[u8; N]) -> &[u8]
+    ensures same { result.now ≡ array.now }
+    ensures long { length result.now ≡ N }
+{
+    array
+}
+
+/// Adds an element of a new name at the end.
+pub(crate) fn put(
+    alloc: Global,
+    document: &mut Document,
+    name: &str,
+    value: Value,
+) -> Result<(), NoMemory>
+    requires { is_named name.now document.old ≡ false }
+    ensures { OnOk result (document.new ≡ document.old ++ (name.now, plain value) ∷ []) }
+{
+    let name = Text::of(alloc, name)?;
+    match document.push(name, value) {
+        Ok(()) => Ok(()),
+        Err(PushFault::NoMemory) => Err(NoMemory),
+        Err(PushFault::DuplicateName) => unreachable!(),
+    }
+}
+
+/// Adds a binary of a new name at the end.
+pub(crate) fn put_binary(
+    alloc: Global,
+    document: &mut Document,
+    name: &str,
+    subtype: u8,
+    bytes: &[u8],
+) -> Result<(), NoMemory>
+    requires { is_named name.now document.old ≡ false }
+    ensures { OnOk result (document.new ≡ document.old ++ (name.now, p.Binary subtype bytes.now) ∷ []) }
+{
+    let bytes = Bytes::from_slice(alloc, bytes)?;
+    put(alloc, document, name, Value::Binary { subtype, bytes })
+}
+
+/// The blob of a kind that holds the document.
+pub(crate) fn blob_of(alloc: Global, kind: u8, document: &Document) -> Result<Bytes, EncodeFault>
+    ensures bytes { IfOk result (λ blob. blob ≡ kind ∷ document_bytes document.now) }
+    ensures is { IfOk result (λ blob. IsBlob kind document.now blob) }
+{
+    let encoded = encode(alloc, document)?;
+    let mut blob = Vec::new(alloc);
+    blob.extend_from_slice(&[kind])?;
+    blob.extend_from_slice(encoded.slice())?;
+    Ok(Bytes::from_vec(alloc, blob))
+}
