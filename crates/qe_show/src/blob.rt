@@ -1,0 +1,128 @@
+//! The line of a blob.
+
+ghost use Rattle.std.specs.Prelude.{◌≡◌, ◌++◌, IfOk, OnOk, Option, Some};
+ghost use Rattle.qe_payload.specs.Refusal.{Refusal, IsRefusal};
+ghost use Rattle.qe_show.specs.Blob.{equal_line, indexed_head, indexed_line, block_parts, refusal_line, form_of, ShowsRefusal, ShowsAs, ShowsBlob};
+ghost use Rattle.qe_show.specs.Kinds.{kind_text, indexed_text};
+
+use crate::kinds::{indexed_text, kind_text};
+use crate::parts::{put_hex, put_number, put_uuid};
+use qe_base::{Bytes, NoMemory};
+use qe_indexed::{Block, IndexedFault, IndexedValue};
+use qe_payload::{FindEqual, Malformed, read_equal};
+use std::alloc::Global;
+
+/// What a blob is, by its first byte.
+#[derive(Clone, Copy)]
+pub enum Form {
+    /// A find payload of equality, whose first byte is 12.
+    Equal,
+    /// An indexed value, or no blob that is known.
+    Indexed,
+}
+
+/// The line of a blob, without its end.
+pub fn blob_line(alloc: Global, blob: &[u8]) -> Result<Bytes, NoMemory>
+    ensures { IfOk result (ShowsBlob blob.now) }
+{
+    match form_of(blob) {
+        Form::Equal => shown_equal(alloc, blob),
+        Form::Indexed => shown_indexed(alloc, blob),
+    }
+}
+
+#[tactic(auto, unfolding(crate::specs::Blob::form_of))]
+fn form_of(blob: &[u8]) -> Form
+    ensures { result ≡ form_of blob.now }
+{
+    match blob.first() {
+        Some(12) => Form::Equal,
+        _ => Form::Indexed,
+    }
+}
+
+fn shown_equal(alloc: Global, blob: &[u8]) -> Result<Bytes, NoMemory>
+    ensures { IfOk result (ShowsAs Form.Equal blob.now) }
+{
+    match read_equal(alloc, blob) {
+        Ok(payload) => equal_line(alloc, &payload),
+        Err(refusal) => malformed_line(alloc, refusal),
+    }
+}
+
+fn shown_indexed(alloc: Global, blob: &[u8]) -> Result<Bytes, NoMemory>
+    ensures { IfOk result (ShowsAs Form.Indexed blob.now) }
+{
+    match IndexedValue::read(alloc, blob) {
+        Ok(value) => indexed_line(alloc, &value),
+        Err(IndexedFault::NoMemory) => Err(NoMemory),
+        Err(fault) => {
+            let kind = indexed_text(alloc, fault)?;
+            refusal_line(alloc, b".", kind.slice())
+        }
+    }
+}
+
+#[tactic(auto, unfolding(crate::specs::Blob::equal_line))]
+fn equal_line(alloc: Global, payload: &FindEqual) -> Result<Bytes, NoMemory>
+    ensures { IfOk result (λ line. line ≡ equal_line payload.now) }
+{
+    let mut line = Bytes::from_slice(alloc, b"findEquality")?;
+    put_hex(alloc, &mut line, "d", &payload.d)?;
+    put_hex(alloc, &mut line, "s", &payload.s)?;
+    put_hex(alloc, &mut line, "l", &payload.l)?;
+    put_number(alloc, &mut line, "cm", payload.cm)?;
+    Ok(line)
+}
+
+#[tactic(auto, unfolding(crate::specs::Blob::indexed_line))]
+fn indexed_line(alloc: Global, value: &IndexedValue) -> Result<Bytes, NoMemory>
+    ensures { IfOk result (λ line. line ≡ indexed_line value.now) }
+{
+    let mut line = Bytes::from_slice(alloc, indexed_head(value.range).as_bytes())?;
+    put_uuid(&mut line, "key", value.key_id)?;
+    put_number(alloc, &mut line, "type", i64::from(value.value_kind))?;
+    put_hex(alloc, &mut line, "value", value.server_value.slice())?;
+    put_blocks(alloc, &mut line, value.blocks.slice())?;
+    Ok(line)
+}
+
+fn indexed_head(range: bool) -> &'static str
+    ensures { result.now ≡ indexed_head range }
+{
+    if range { "indexed 15" } else { "indexed 14" }
+}
+
+fn put_blocks(alloc: Global, line: &mut Bytes, blocks: &[Block]) -> Result<(), NoMemory>
+    ensures { OnOk result (line.new ≡ line.old ++ block_parts 0 blocks.now) }
+{
+    for i in 0..blocks.len() {
+        let name = format!(in alloc; "b{i}")?;
+        put_hex(alloc, line, name.as_str(), &blocks[i].0)?;
+    }
+    Ok(())
+}
+
+// The line of a refusal.
+fn malformed_line(alloc: Global, refusal: Malformed) -> Result<Bytes, NoMemory>
+    ensures { (due : Option Refusal) → IsRefusal refusal due → IfOk result (ShowsRefusal due) }
+{
+    match refusal {
+        Malformed::At { path, kind } => {
+            let kind = kind_text(alloc, kind)?;
+            refusal_line(alloc, path.as_str().as_bytes(), kind.slice())
+        }
+        Malformed::NoMemory => Err(NoMemory),
+    }
+}
+
+#[tactic(auto, unfolding(crate::specs::Blob::refusal_line))]
+fn refusal_line(alloc: Global, path: &[u8], kind: &[u8]) -> Result<Bytes, NoMemory>
+    ensures { IfOk result (λ line. line ≡ refusal_line path.now kind.now) }
+{
+    let mut line = Bytes::from_slice(alloc, b"malformed ")?;
+    line.extend(path)?;
+    line.extend(b" ")?;
+    line.extend(kind)?;
+    Ok(line)
+}
