@@ -3,6 +3,7 @@ pub mod AloneLemmas
 pub mod DepthLemmas
 pub mod DocumentLemmas
 pub mod ElementLemmas
+pub mod FlatLemmas
 pub mod JsonAgainLemmas
 pub mod JsonDeepLemmas
 pub mod JsonFloatLemmas

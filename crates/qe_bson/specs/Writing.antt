@@ -1,5 +1,5 @@
 -- How deep a document is, where a name holds a byte 0, and what writing answers.
-use Rattle.std.specs.Prelude.{◌≡◌, ℕ, suc, ◌+◌, ◌<◌, ◌≤◌, ◌==◌, max, Bool, true, false, ◌||◌, List, [], ◌∷◌, ◌++◌, length, map, Result, Ok, Err}
+use Rattle.std.specs.Prelude.{◌≡◌, ℕ, suc, ◌+◌, ◌<◌, ◌≤◌, ◌==◌, max, Bool, true, false, ◌||◌, List, [], ◌∷◌, ◌++◌, length, map, Option, Some, Result, Ok, Err}
 use Rattle.std.specs.List.{list_any}
 use Rattle.qe_bson.specs.declared.fault.EncodeFault.{EncodeFault}
 use Rattle.qe_bson.specs.declared.fault.EncodeFault.TheVariants.{TooLong, TooDeep, ZeroInName, NoMemory}
@@ -7,7 +7,8 @@ use Rattle.qe_bson.specs.declared.value.Plain.{Plain, fold-Plain, out-Plain}
 use Rattle.qe_bson.specs.declared.value.Plain.TheOpen.{Plain-F}
 use Rattle.qe_bson.specs.declared.value.Value.{Value}
 use Rattle.qe_bson.specs.declared.value.Value.TheVariants as v
-use Rattle.qe_bson.specs.Spelling.{Spelled, spelled, spelled_field, spelled_step, Fits_with, document_bytes}
+use Rattle.qe_bson.specs.Names.{value_named}
+use Rattle.qe_bson.specs.Spelling.{Spelled, spelled, spelled_field, spelled_step, Fits_with, document_bytes, IsDocument}
 
 abbrev pub greatest : List ℕ → ℕ
 greatest [] = 0
@@ -88,3 +89,8 @@ IsWhyRefused fs TooLong = 16777216 < length (document_bytes fs)
 IsWhyRefused fs TooDeep = (length (document_bytes fs) ≤ 16777216) × (100 < fields_depth fs)
 IsWhyRefused fs ZeroInName = (length (document_bytes fs) ≤ 16777216) × (fields_depth fs ≤ 100) × (zero_in_fields fs ≡ true)
 IsWhyRefused fs NoMemory = Unit {0}
+
+-- a document of the profile is refused for want of memory alone, and a value of it is one alone
+pub record WritingLaws : Type 0 where
+  pub only_memory : (fs : List (List ℕ × Plain)) (fault : EncodeFault) → IsDocument fs → IsWhyRefused fs fault → fault ≡ NoMemory
+  pub alone : (fs : List (List ℕ × Plain)) (name : List ℕ) (v : Plain) → IsDocument fs → value_named name fs ≡ Some v → IsDocument (([], v) ∷ [])

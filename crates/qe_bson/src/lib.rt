@@ -24,7 +24,7 @@ pub use fault::{BsonFault, BsonKind, EncodeFault, PushFault};
 pub use reader::{Reader, more_bytes_leave_what_is_decided};
 pub use reading::{decode, value_from};
 pub use value::{Document, Plain, Value, Values};
-pub use writing::{encode, value_bytes};
+pub use writing::{encode, value_bytes, value_kind, what_fits_is_written};
 
 #[cfg(test)]
 mod tests;

@@ -110,15 +110,17 @@ fn a_document_of_four_fields(rt: HostRuntime) -> Result<(), Fail> {
         .and_then(Value::as_array)
         .ok_or("an array")?;
     assert_eq!(rt; array.slice().len(), array.len());
-    let bytes = value_bytes(rt.alloc(), &Value::Int32(-2))?;
+    let number = Value::Int32(-2);
+    let bytes = value_bytes(rt.alloc(), &number)?;
     assert_eq!(rt; bytes.slice(), [254, 255, 255, 255].as_slice());
     assert!(rt;
         matches!(
-            value_from(rt.alloc(), 0x10, bytes.slice()),
+            value_from(rt.alloc(), value_kind(&number), bytes.slice()),
             Ok(Value::Int32(-2))
         )
     );
     document.push(Text::of(rt.alloc(), "\0")?, Value::Null)?;
     assert!(rt; encode(rt.alloc(), &document).err() == Some(EncodeFault::ZeroInName));
+    what_fits_is_written();
     Ok(())
 }

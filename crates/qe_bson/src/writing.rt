@@ -4,7 +4,7 @@ ghost use Rattle.std.specs.Prelude.{◌≡◌, ℕ, ◌+◌, ◌≤◌, ◌∷�
 ghost use Rattle.qe_bson.specs.Reading.{document_at};
 ghost use Rattle.qe_bson.specs.Views.{plain};
 ghost use Rattle.qe_bson.specs.Spelling.{Spelled, element, fields_bytes, items_bytes, framed, string, binary as binary_bytes, spelled, spelled_field, document_bytes, IsDocument};
-ghost use Rattle.qe_bson.specs.Writing.{Writes, spell, IsWhyRefused};
+ghost use Rattle.qe_bson.specs.Writing.{Writes, spell, IsWhyRefused, WritingLaws};
 
 use crate::bounds::{has_zero, is_within, value_has_zero, value_within};
 use crate::fault::EncodeFault;
@@ -197,3 +197,15 @@ pub fn value_bytes(alloc: Global, value: &Value) -> Result<Bytes, EncodeFault>
     }
     Ok(Bytes::from_vec(alloc, out))
 }
+
+/// The byte of a value's type, which stands before an element's name.
+pub fn value_kind(value: &Value) -> u8
+    ensures { result ≡ (spelled (plain value.now)).kind }
+{
+    kind_of(value)
+}
+
+/// Documents and values that fit are refused for want of memory alone.
+pub fn what_fits_is_written()
+    ensures { WritingLaws }
+{}

@@ -3,9 +3,9 @@
 ghost use Rattle.std.specs.Prelude.{◌≡◌, ℕ, List, ◌++◌, [], true, take, drop, slice_index_or, IsTrue, ◌↔◌};
 ghost use Rattle.qe_indexed.specs.Block.{enciphered, deciphered, two_numbers, block_of, low_number, high_number, zeros, numbers_in, zeros_in, IsMade};
 
-use crate::pieces::{array_at, fill};
+use crate::pieces::fill;
 use qe_aes::ctr;
-use qe_base::{Duplicate, NoMemory};
+use qe_base::{Duplicate, NoMemory, array_at};
 use qe_tokens::{EdcTwice, ServerDerived, document_tag, server_count, server_zeros};
 
 /// The length of a block, in bytes.

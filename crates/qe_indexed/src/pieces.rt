@@ -1,16 +1,6 @@
 //! Copies between slices and arrays.
 
-ghost use Rattle.std.specs.Prelude.{◌≡◌, ◌+◌, ◌≤◌, ◌++◌, length, take, drop};
-
-/// The array of the bytes from place `at`.
-pub(crate) fn array_at<const N: usize>(bytes: &[u8], at: usize) -> [u8; N]
-    requires { at + N ≤ length bytes.now }
-    ensures { result ≡ take N (drop at bytes.now) }
-{
-    let mut array = [0u8; N];
-    array.copy_from_slice(&bytes[at..at + N]);
-    array
-}
+ghost use Rattle.std.specs.Prelude.{◌≡◌, ◌+◌, ◌≤◌, ◌++◌, length, take};
 
 /// The bytes of an array, which are as many as its type says.
 pub(crate) fn bytes_of<const N: usize>(array: &[u8; N]) -> &[u8]

@@ -8,10 +8,9 @@ ghost use Rattle.qe_indexed.specs.Refusal.{refusal_of, equality_refusal, range_r
 
 use crate::block::{BLOCK_LEN, Block};
 use crate::fault::IndexedFault;
-use crate::pieces::array_at;
 use crate::value::{Blocks, IndexedValue};
 use crate::writing::{EQUALITY, RANGE};
-use qe_base::{Bytes, NoMemory};
+use qe_base::{Bytes, NoMemory, array_at};
 use std::alloc::Global;
 
 /// The length of the shortest equality value, in bytes: the head, an IV and one block.

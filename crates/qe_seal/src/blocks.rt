@@ -5,8 +5,8 @@ ghost use Rattle.qe_aes.specs.Field.{xor_bytes};
 ghost use Rattle.qe_seal.specs.Cbc.{cbc_encryption, cbc_plain};
 
 use crate::padding::last_block;
-use crate::pieces::array_at;
 use qe_aes::{Aes256, xor_front};
+use qe_base::array_at;
 use std::alloc::{AllocError, Global};
 
 /// The length of a block of AES, in bytes.

@@ -5,8 +5,7 @@ ghost use Rattle.qe_seal.specs.Sealed.{encryption_key, seal_mac, Seals, seal_ans
 use crate::blocks::{BLOCK_LEN, push_cipher};
 use crate::cbc::{CbcFault, cbc_decrypt};
 use crate::mac::HmacKey;
-use crate::pieces::array_at;
-use qe_base::{Bytes, NoMemory};
+use qe_base::{Bytes, NoMemory, array_at};
 use std::alloc::Global;
 use thiserror::Error;
 

@@ -1,8 +1,7 @@
 ghost use Rattle.std.specs.Prelude.{◌≡◌};
 ghost use Rattle.qerun.specs.Opening.{int32_of};
 
-use crate::pieces::array_at;
-use qe_base::NoMemory;
+use qe_base::{NoMemory, array_at};
 use qe_indexed::IndexedFault;
 use qe_seal::SealFault;
 

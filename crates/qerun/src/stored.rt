@@ -2,10 +2,9 @@ ghost use Rattle.std.specs.Prelude.{◌≡◌, length, IfOk};
 ghost use Rattle.qe_indexed.specs.Layout.{IsLaidOut};
 ghost use Rattle.qerun.specs.Stored.{server_value, deciphered, indexed_of};
 
-use crate::pieces::array_at;
 use crate::request::Payload;
 use qe_aes::ctr;
-use qe_base::{Bytes, Duplicate, NoMemory};
+use qe_base::{Bytes, Duplicate, NoMemory, array_at};
 use qe_indexed::{Block, Blocks, IndexedValue, make_block};
 use qe_tokens::{ServerDataLevel1, edc_twice};
 use std::alloc::Global;
