@@ -1,2 +1,2 @@
-pub mod BlockLemmas
+pub mod CarriedLemmas
 pub mod LineLemmas

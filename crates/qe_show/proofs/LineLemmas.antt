@@ -47,3 +47,10 @@ pub not_hex_here : (number : ℕ) (lines rest : List (List ℕ)) (line : List �
 unfolding first_not_hex
 not_hex_here number lines rest [] first some none = absurd (some refl)
 not_hex_here number lines rest (x ∷ xs) first some none = rw (first, none)
+
+-- lines that are shown are hex
+pub shown_is_hex : (number : ℕ) (lines : List (List ℕ)) (text : List ℕ) → Shows lines text → first_not_hex number lines ≡ None
+unfolding first_not_hex
+shown_is_hex number [] text shows = refl
+shown_is_hex number ([] ∷ lines) text shows = shown_is_hex (number + 1) lines text shows
+shown_is_hex number ((x ∷ xs) ∷ lines) text shows = rw shows.spelled (shown_is_hex (number + 1) lines shows.rest shows.shows_rest)

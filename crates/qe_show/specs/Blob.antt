@@ -1,57 +1,39 @@
 -- The line that shows a blob: its parts by name, or the first refusal and its path.
-use Rattle.std.specs.Prelude.{◌≡◌, ◌⊎◌, ℕ, ◌+◌, ℤ, pos, List, [], ◌∷◌, ◌++◌, slice_index, codes, ◌==◌, Bool, true, false, if◌then◌else◌, Option, Some}
-use Rattle.std.specs.Fmt.{decimal, signed_decimal}
-use Rattle.hex.specs.Hex.{encode_lower}
-use Rattle.uuid.specs.Text.{hyphenated_text, lower}
+use Rattle.std.specs.Prelude.{◌≡◌, ◌⊎◌, ℕ, pos, List, ◌++◌, slice_index, codes, ◌==◌, Bool, true, false, if◌then◌else◌, Option, Some}
+use Rattle.std.specs.Fmt.{decimal}
 use Rattle.qe_indexed.specs.declared.block.Block.{Block}
 use Rattle.qe_indexed.specs.declared.fault.IndexedFault.{IndexedFault}
 use Rattle.qe_indexed.specs.Parts.{Indexed}
 use Rattle.qe_indexed.specs.Layout.{IsLaidOut}
 use Rattle.qe_indexed.specs.Refusal.{refusal_of}
-use Rattle.qe_payload.specs.declared.equal.FindEqual.{FindEqual}
 use Rattle.qe_payload.specs.Equal.{IsEqualBlob, equal_blob_refusal}
+use Rattle.qe_payload.specs.Insert.{IsInsertBlob, insert_blob_refusal}
+use Rattle.qe_payload.specs.Range.{IsRangeBlob, range_blob_refusal}
 use Rattle.qe_payload.specs.Refusal.{Refusal}
 use Rattle.qe_show.specs.Kinds.{kind_text, indexed_text}
+use Rattle.qe_show.specs.Parts.{hex_part, number_part, uuid_part, parts_from}
+use Rattle.qe_show.specs.Payloads.{insert_line, equal_line, range_line}
 use Rattle.qe_show.specs.declared.blob.Form.{Form}
 use Rattle.qe_show.specs.declared.blob.Form.TheVariants as form
 
--- a part behind a space: `NAME=TEXT`
-unfoldable pub named : List ℕ → List ℕ → List ℕ
-named name text = codes " " ++ (name ++ (codes "=" ++ text))
-
-abbrev pub hex_part : List ℕ → List ℕ → List ℕ
-hex_part name bytes = named name (encode_lower bytes)
-
-abbrev pub number_part : List ℕ → ℤ → List ℕ
-number_part name number = named name (signed_decimal number)
-
-abbrev pub uuid_part : List ℕ → List ℕ → List ℕ
-uuid_part name id = named name (hyphenated_text lower id)
-
--- the tokens, and the greatest contention factor
-unfoldable pub equal_line : FindEqual → List ℕ
-equal_line p =
-    codes "findEquality" ++ (hex_part (codes "d") p.d ++ (hex_part (codes "s") p.s ++ (hex_part (codes "l") p.l ++ number_part (codes "cm") p.cm)))
-
--- the blocks, by their places from 0
-abbrev pub block_parts : ℕ → List Block → List ℕ
-block_parts place [] = []
-block_parts place (block ∷ blocks) = hex_part (codes "b" ++ decimal place) block.0 ++ block_parts (place + 1) blocks
+-- a block of an indexed value, by its place from 0
+abbrev pub block_part : ℕ → Block → List ℕ
+block_part place block = hex_part (codes "b" ++ decimal place) block.0
 
 -- the first byte
 abbrev pub indexed_head : Bool → List ℕ
 indexed_head false = codes "indexed 14"
 indexed_head true = codes "indexed 15"
 
--- the first byte, the key's number, the type of BSON, the server-encrypted value, and the blocks
+-- the first byte, the key's id, the type of BSON, the server-encrypted value, and the blocks
 unfoldable pub indexed_line : Indexed → List ℕ
 indexed_line v =
-    indexed_head v.range ++ (uuid_part (codes "key") v.key_id ++ (number_part (codes "type") (pos v.value_kind)
-    ++ (hex_part (codes "value") v.server_value ++ block_parts 0 v.blocks)))
+    indexed_head v.range ++ uuid_part (codes "key") v.key_id ++ number_part (codes "type") (pos v.value_kind)
+    ++ hex_part (codes "value") v.server_value ++ parts_from block_part 0 v.blocks
 
 -- the path and the kind of a refusal
 unfoldable pub refusal_line : List ℕ → List ℕ → List ℕ
-refusal_line path kind = codes "malformed " ++ (path ++ (codes " " ++ kind))
+refusal_line path kind = codes "malformed " ++ path ++ codes " " ++ kind
 
 -- the blob is laid out as a value, and the line has its parts
 pub record ShowsParts {A : Type 0} (IsBlobOf : A → List ℕ → Type 0) (line_of : A → List ℕ) (blob line : List ℕ) : Type 0 where
@@ -73,10 +55,14 @@ pub record ShowsFault (due : Option IndexedFault) (line : List ℕ) : Type 0 whe
 
 -- the first byte says what a blob is
 unfoldable pub form_of : List ℕ → Form
-form_of blob = if slice_index blob 0 == 12 then form.Equal else form.Indexed
+form_of blob =
+    if slice_index blob 0 == 11 then form.Insert
+    else (if slice_index blob 0 == 12 then form.Equal else (if slice_index blob 0 == 13 then form.Range else form.Indexed))
 
 abbrev pub ShowsAs : Form → List ℕ → List ℕ → Type 0
+ShowsAs form.Insert blob line = ShowsParts IsInsertBlob insert_line blob line ⊎ ShowsRefusal (insert_blob_refusal blob) line
 ShowsAs form.Equal blob line = ShowsParts IsEqualBlob equal_line blob line ⊎ ShowsRefusal (equal_blob_refusal blob) line
+ShowsAs form.Range blob line = ShowsParts IsRangeBlob range_line blob line ⊎ ShowsRefusal (range_blob_refusal blob) line
 ShowsAs form.Indexed blob line = ShowsParts IsLaidOut indexed_line blob line ⊎ ShowsFault (refusal_of blob) line
 
 abbrev pub ShowsBlob : List ℕ → List ℕ → Type 0

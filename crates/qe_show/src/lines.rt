@@ -1,6 +1,4 @@
-ghost use Rattle.std.specs.Prelude.{◌≡◌, ◌++◌, ◌∷◌, [], Some, IfOk, IfErr, OnOk, option_map, map};
-ghost use Rattle.std.specs.List.{slice_split};
-ghost use Rattle.qe_show.specs.Blob.{ShowsBlob};
+ghost use Rattle.std.specs.Prelude.{◌≡◌, IfOk, IfErr, map};
 ghost use Rattle.qe_show.specs.Lines.{Shows, IsWhyNot, blob_of, lines_of};
 
 use crate::blob::blob_line;

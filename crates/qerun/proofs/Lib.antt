@@ -2,6 +2,7 @@ pub mod ApartLemmas
 pub mod DrawLemmas
 pub mod FoundLemmas
 pub mod OpeningLemmas
+pub mod OutcomeLemmas
 pub mod RunLemmas
 pub mod StandsLemmas
 pub mod StepLemmas

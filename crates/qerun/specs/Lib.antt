@@ -5,6 +5,7 @@ pub mod Opening
 pub mod Plain
 pub mod Server
 pub mod Stored
+pub mod Task
 pub mod Text
 pub mod Top
 pub mod Words

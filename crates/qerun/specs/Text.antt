@@ -49,8 +49,9 @@ replies_text path replies = flat_map (reply_line path) replies
 abbrev pub plain_text : List ℕ → List Command → List ℕ
 plain_text path commands = replies_text path (plain_replay commands)
 
-abbrev pub bad_line_text : ℕ → List ℕ
-bad_line_text number = line (codes "bad line " ++ (decimal number ++ codes " NotBuilt"))
+-- a line's number, and what is wrong with it
+abbrev pub bad_line_text : ℕ → List ℕ → List ℕ
+bad_line_text number kind = line (codes "bad line " ++ (decimal number ++ (codes " " ++ kind)))
 
 abbrev pub too_long_text : List ℕ
 too_long_text = line (codes "bad script too long")

@@ -1,7 +1,6 @@
--- What a call of `replay` comes to, status by status.
-use Rattle.std.specs.Prelude.{◌≡◌, ◌⊎◌, ◌^◌, ℕ, List, [], ◌∷◌, length, Bool, true, false, not, nat_lt, codes, if◌then◌else◌, Option, Some, Result, Ok, Err}
+-- What a call of `replay` comes to, task by task and status by status.
+use Rattle.std.specs.Prelude.{◌≡◌, ◌⊎◌, ◌^◌, ℕ, List, length, nat_lt, codes, if◌then◌else◌, Option, Some, None, Result, Ok, Err}
 use Rattle.std.specs.Io.KnownBytes.{Appends, Keeps}
-use Rattle.std.specs.Str.{bytes_eq}
 use Rattle.qe_base.specs.Faults.{Rose}
 use Rattle.qe_base.specs.Transfer.{TakesAll, IsTooLong, AppendsFront}
 use Rattle.qe_base.specs.declared.status.Status.{Status}
@@ -11,14 +10,12 @@ use Rattle.qe_script.specs.declared.script.Script.{Script}
 use Rattle.qe_script.specs.declared.script.ScriptFault.{ScriptFault}
 use Rattle.qe_script.specs.declared.script.ScriptFault.TheVariants.{At}
 use Rattle.qe_script.specs.declared.script.ScriptKind.TheVariants.{NotBuilt}
+use Rattle.qe_show.specs.Lines.{Shows, lines_of, first_not_hex}
+use Rattle.qerun.specs.Task.{task_of}
+use Rattle.qerun.specs.declared.task.Task.{Task}
+use Rattle.qerun.specs.declared.task.Task.TheVariants.{Replay, Show}
 use Rattle.qerun.specs.Text.{plain_text, bad_line_text, too_long_text, usage_text}
 use Rattle.qerun.specs.Words.{NoClash}
-
--- the one word `replay`
-abbrev pub is_replay : List (List ℕ) → Bool
-is_replay [] = false
-is_replay (word ∷ []) = bytes_eq word (codes "replay")
-is_replay (word ∷ (other ∷ words)) = false
 
 -- the text is the plain collection's, where no two labels of the run share an identifier
 pub record IsRun (taken text : List ℕ) : Type 0 where
@@ -30,29 +27,45 @@ pub record IsRun (taken text : List ℕ) : Type 0 where
 pub record IsRefusal (taken text : List ℕ) : Type 0 where
   pub line : ℕ
   pub fault : script_of taken ≡ Err (At line NotBuilt)
-  pub printed : text ≡ bad_line_text line
+  pub printed : text ≡ bad_line_text line (codes "NotBuilt")
+
+-- the text names the first line that isn't hex
+pub record IsNotHex (taken text : List ℕ) : Type 0 where
+  pub line : ℕ
+  pub first : first_not_hex 1 (lines_of taken) ≡ Some line
+  pub printed : text ≡ bad_line_text line (codes "NotHex")
+
+-- the text that a task's input is answered with, by the status
+abbrev pub IsDueFor : Task → List ℕ → Status → List ℕ → Type 0
+IsDueFor Replay taken Done text = IsRun taken text
+IsDueFor Replay taken BadScript text = IsRefusal taken text
+IsDueFor Show taken Done text = Shows (lines_of taken) text
+IsDueFor Show taken BadScript text = IsNotHex taken text
+IsDueFor task taken _ text = ⊥
 
 -- the source was taken to its end, and the text is due for its bytes
-pub record IsDueFor (Due : List ℕ → List ℕ → Type 0) (words : List (List ℕ)) (old new : Option (List ℕ)) (text : List ℕ) : Type 0 where
-  pub form : is_replay words ≡ true
+pub record IsDueForTaken (words : List (List ℕ)) (old new : Option (List ℕ)) (status : Status) (text : List ℕ) : Type 0 where
+  pub task : Task
+  pub form : task_of words ≡ Some task
   pub taken : List ℕ
   pub whole : TakesAll old new taken
-  pub due : Due taken text
+  pub due : IsDueFor task taken status text
 
 pub record IsDueForTooMuch (words : List (List ℕ)) (old new : Option (List ℕ)) (text : List ℕ) : Type 0 where
-  pub form : is_replay words ≡ true
+  pub task : Task
+  pub form : task_of words ≡ Some task
   pub count : ℕ
   pub too_long : IsTooLong old new count
   pub printed : text ≡ too_long_text
 
 pub record IsDueForWords (words : List (List ℕ)) (text : List ℕ) : Type 0 where
-  pub form : is_replay words ≡ false
+  pub form : task_of words ≡ None
   pub printed : text ≡ usage_text
 
 -- the text that is due with a status, for these words and what was taken of the source
 abbrev pub IsDue : List (List ℕ) → Option (List ℕ) → Option (List ℕ) → Status → List ℕ → Type 0
-IsDue words old new Done text = IsDueFor IsRun words old new text
-IsDue words old new BadScript text = IsDueFor IsRefusal words old new text
+IsDue words old new Done text = IsDueForTaken words old new Done text
+IsDue words old new BadScript text = IsDueForTaken words old new BadScript text
 IsDue words old new ScriptTooLong text = IsDueForTooMuch words old new text
 IsDue words old new BadWords text = IsDueForWords words text
 IsDue words old new ReadFault text = ⊥
@@ -81,7 +94,8 @@ pub record IsWritten (call : Call) (status : Status) : Type 0 where
 
 -- the source failed, and nothing was written
 pub record IsUnread (call : Call) : Type 0 where
-  pub form : is_replay call.words ≡ true
+  pub task : Task
+  pub form : task_of call.words ≡ Some task
   pub rose : Rose call.reads call.reads_after
   pub kept : Keeps call.holds call.holds_after
 
@@ -104,16 +118,25 @@ IsOutcome call ScriptTooLong = IsWritten call ScriptTooLong
 IsOutcome call NoMemory = Keeps call.holds call.holds_after
 IsOutcome call BadWords = IsWritten call BadWords
 
-abbrev pub status_of : Result Script ScriptFault → Status
-status_of (Ok script) = Done
-status_of (Err fault) = BadScript
+abbrev pub script_status : Result Script ScriptFault → Status
+script_status (Ok script) = Done
+script_status (Err fault) = BadScript
+
+abbrev pub hex_status : Option ℕ → Status
+hex_status None = Done
+hex_status (Some line) = BadScript
+
+abbrev pub input_status : Task → List ℕ → Status
+input_status Replay input = script_status (script_of input)
+input_status Show input = hex_status (first_not_hex 1 (lines_of input))
+
+abbrev pub task_status : Option Task → List ℕ → Status
+task_status None input = BadWords
+task_status (Some task) input = if nat_lt (2 ^ 28) (length input) then ScriptTooLong else input_status task input
 
 -- the status of words and an input
 abbrev pub due_status : List (List ℕ) → List ℕ → Status
-due_status words input =
-    if not (is_replay words) then BadWords
-    else if nat_lt (2 ^ 28) (length input) then ScriptTooLong
-    else status_of (script_of input)
+due_status words input = task_status (task_of words) input
 
 -- where neither side fails, the status is the one due, or memory was wanting
 abbrev pub Completes : Call → Status → Type 0

@@ -15,6 +15,7 @@ mod request;
 mod run;
 mod server;
 mod stored;
+mod task;
 #[cfg(test)]
 mod tests;
 mod texts;

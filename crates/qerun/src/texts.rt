@@ -100,16 +100,16 @@ fn ids_text(alloc: Global, ids: &[i32]) -> Result<Bytes, NoMemory>
     Ok(text)
 }
 
-/// The line of a script whose line of this number isn't read.
-pub fn bad_line_text(alloc: Global, number: u64) -> Result<Bytes, NoMemory>
-    ensures { IfOk result (λ text. text ≡ bad_line_text number) }
+/// The line of an input whose line of this number isn't read.
+pub fn bad_line_text(alloc: Global, number: u64, kind: &str) -> Result<Bytes, NoMemory>
+    ensures { IfOk result (λ text. text ≡ bad_line_text number kind.now) }
 {
-    let text = format!(in alloc; "bad line {number} NotBuilt\n")?;
+    let text = format!(in alloc; "bad line {number} {kind}\n")?;
     let bytes = Bytes::from_slice(alloc, text.as_bytes())?;
     Ok(bytes)
 }
 
-/// The line of a script that is too long.
+/// The line of an input that is too long.
 pub fn too_long_text(alloc: Global) -> Result<Bytes, NoMemory>
     ensures { IfOk result (λ text. text ≡ too_long_text) }
 {

@@ -1,11 +1,13 @@
 ghost use Rattle.std.specs.Prelude.{◌≡◌, ◌≤◌, map, string_bytes, IfOk, IfErr};
-ghost use Rattle.qerun.specs.Top.{is_replay, Call, IsOutcome, Completes};
+ghost use Rattle.qerun.specs.Top.{Call, IsOutcome, Completes};
 ghost use Rattle.qerun.specs.Due.{IsPrepared, IsPreparedFor, IsWhyStopped};
 
 use crate::run::run;
+use crate::task::{Task, task_of};
 use crate::texts::{bad_line_text, replies_text, too_long_text, usage_text};
 use qe_base::{Bytes, NoMemory, Sink, Source, Status, TakeFault, put_all, take_all};
 use qe_script::{ScriptFault, read_script};
+use qe_show::{ShowFault, show};
 use std::alloc::Global;
 
 /// What is to be written, and the status that it comes with.
@@ -33,7 +35,8 @@ impl From<NoMemory> for Stop {
     }
 }
 
-/// Runs the script that the source gives, and writes its replies to the sink.
+/// Does what the words ask for with what the source gives: runs a script and writes its replies to the sink, or writes
+/// the lines that show blobs.
 pub fn replay<S: Source, K: Sink>(
     alloc: Global,
     words: &[String],
@@ -109,16 +112,16 @@ fn prepared<S: Source>(alloc: Global, words: &[String], source: &mut S) -> Resul
     ensures stop { IfErr result (IsWhyStopped (map string_bytes words.now) (S.faults source.old) (S.faults source.new)) }
     ensures reads { S.faults source.old ≤ S.faults source.new }
 {
-    if !is_replay(words) {
+    let Some(task) = task_of(words) else {
         let text = usage_text(alloc)?;
         return Ok(Due {
             status: Status::BadWords,
             text,
         });
-    }
+    };
     match take_all(alloc, source) {
         Ok(taken) => {
-            let due = due_for(alloc, taken.slice())?;
+            let due = due_for(alloc, task, taken.slice())?;
             Ok(due)
         }
         Err(TakeFault::TooLong { .. }) => {
@@ -133,16 +136,19 @@ fn prepared<S: Source>(alloc: Global, words: &[String], source: &mut S) -> Resul
     }
 }
 
-// The one word `replay`.
-fn is_replay(words: &[String]) -> bool
-    ensures { result ≡ is_replay (map string_bytes words.now) }
+// What is due for the bytes of a task's input.
+fn due_for(alloc: Global, task: Task, taken: &[u8]) -> Result<Due, NoMemory>
+    ensures { IfOk result (IsPreparedFor task taken.now) }
 {
-    words.len() == 1 && words[0].as_str() == "replay"
+    match task {
+        Task::Replay => replies_due(alloc, taken),
+        Task::Show => lines_due(alloc, taken),
+    }
 }
 
-// What is due for the bytes of a script.
-fn due_for(alloc: Global, taken: &[u8]) -> Result<Due, NoMemory>
-    ensures { IfOk result (IsPreparedFor taken.now) }
+// The replies to a script, or its first line that isn't read.
+fn replies_due(alloc: Global, taken: &[u8]) -> Result<Due, NoMemory>
+    ensures { IfOk result (IsPreparedFor Task.Replay taken.now) }
 {
     match read_script(alloc, taken) {
         Ok(script) => {
@@ -155,12 +161,32 @@ fn due_for(alloc: Global, taken: &[u8]) -> Result<Due, NoMemory>
             })
         }
         Err(ScriptFault::At { line, .. }) => {
-            let text = bad_line_text(alloc, line)?;
+            let text = bad_line_text(alloc, line, "NotBuilt")?;
             Ok(Due {
                 status: Status::BadScript,
                 text,
             })
         }
         Err(ScriptFault::NoMemory) => Err(NoMemory),
+    }
+}
+
+// The lines that show the blobs of lines of hex digits, or the first line that isn't hex.
+fn lines_due(alloc: Global, taken: &[u8]) -> Result<Due, NoMemory>
+    ensures { IfOk result (IsPreparedFor Task.Show taken.now) }
+{
+    match show(alloc, taken) {
+        Ok(text) => Ok(Due {
+            status: Status::Done,
+            text,
+        }),
+        Err(ShowFault::NotHex { line }) => {
+            let text = bad_line_text(alloc, line, "NotHex")?;
+            Ok(Due {
+                status: Status::BadScript,
+                text,
+            })
+        }
+        Err(ShowFault::NoMemory) => Err(NoMemory),
     }
 }
