@@ -32,7 +32,7 @@ length-enciphered key iv plain iv_long long =
     length-append iv (counter_mode key iv plain) ∙ omega (arith, (counter_mode-IsCounterMode key iv plain).same_length)
 
 -- deciphering undoes enciphering
-deciphered-enciphered : (key iv plain : List ℕ) → length iv ≡ 16 → deciphered key (enciphered key iv plain) ≡ plain
+pub deciphered-enciphered : (key iv plain : List ℕ) → length iv ≡ 16 → deciphered key (enciphered key iv plain) ≡ plain
 deciphered-enciphered key iv plain iv_long =
     let cipher = counter_mode key iv plain in
     ap (λ front. counter_mode key front (drop 16 (iv ++ cipher))) (take_at iv cipher 16 iv_long)

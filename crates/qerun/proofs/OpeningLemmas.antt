@@ -11,7 +11,7 @@ use Rattle.qe_seal.specs.declared.sealed.SealFault.{SealFault}
 use Rattle.qe_seal.specs.declared.sealed.SealFault.TheVariants as seal
 use Rattle.qe_tokens.specs.Tokens.{root_key_of, server_cipher_of}
 use Rattle.qerun.specs.Opening.{on_ok, Opens, seal_refusal, indexed_refusal, unsealed, value_sent, sealed_in, value_of, value_in, documents_in}
-use Rattle.qerun.specs.Stored.{deciphered}
+use Rattle.qe_indexed.specs.Block.{deciphered}
 use Rattle.qerun.specs.declared.document.Document.{Document}
 use Rattle.qerun.specs.declared.opening.OpenFault.{OpenFault}
 use Rattle.qerun.specs.declared.opening.OpenFault.TheVariants.{Indexed, KeyDiffers, Seal, NotInt32, NoMemory}

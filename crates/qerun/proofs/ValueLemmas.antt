@@ -7,10 +7,10 @@ use Rattle.std.proofs.Math.Facts.{Fits-of_z, Fits-lt-pow}
 use Rattle.std.proofs.lemmas.List.{take_at, drop_at}
 use Rattle.std.proofs.lemmas.Nat.{from_le_bytes-to_le_bytes_4}
 use Rattle.std.proofs.lemmas.Slice.Eq.{bytes_eq-Decides}
-use Rattle.qe_aes.specs.CounterMode.{counter_mode}
 use Rattle.qe_aes.specs.Laws.{AreBytes}
-use Rattle.qe_aes.proofs.CounterLemmas.{counter_mode-counter_mode}
+use Rattle.qe_indexed.specs.Block.{enciphered}
 use Rattle.qe_indexed.specs.Layout.{IsLaidOut}
+use Rattle.qe_indexed.proofs.BlockLemmas.{deciphered-enciphered}
 use Rattle.qe_indexed.proofs.CutLemmas.{parts_are}
 use Rattle.qe_script.specs.declared.script.Header.{Header}
 use Rattle.qe_seal.specs.Sealed.{opened_value}
@@ -18,7 +18,7 @@ use Rattle.qe_seal.proofs.SealLawLemmas.{opened_value-Seals}
 use Rattle.qerun.specs.Client.{HasBytes, IsSent}
 use Rattle.qerun.specs.Draws.{draws_key}
 use Rattle.qerun.specs.Opening.{int32_of, unsealed, sealed_in, value_in, documents_in}
-use Rattle.qerun.specs.Stored.{server_value, deciphered, indexed_of}
+use Rattle.qerun.specs.Stored.{indexed_of}
 use Rattle.qerun.specs.Words.{item_of}
 use Rattle.qerun.specs.declared.document.Document.{Document}
 use Rattle.qerun.specs.declared.request.Payload.{Payload}
@@ -26,14 +26,6 @@ use Rattle.qerun.specs.declared.stored.ServerIvs.{ServerIvs}
 use Rattle.qerun.specs.declared.stored.Stored.{Stored}
 use Rattle.qerun.proofs.DrawLemmas.{IsBlock-iv_at, AreBytes-word}
 use Rattle.qerun.proofs.OpeningLemmas.{sealed_in-sent, value_sent-own, value_in-own}
-
--- the server's cipher is undone
-deciphered-server_value : (key iv sent : List ℕ) → length iv ≡ 16 → deciphered key (server_value key iv sent) ≡ sent
-unfolding deciphered server_value
-deciphered-server_value key iv sent long =
-    ap (λ first. counter_mode key first (drop 16 (iv ++ counter_mode key iv sent))) (take_at iv (counter_mode key iv sent) 16 long)
-    ∙ ap (counter_mode key iv) (drop_at iv (counter_mode key iv sent) 16 long)
-    ∙ counter_mode-counter_mode key iv sent
 
 -- an int32's four bytes are that int32's
 int32_of-item_of : (v : ℤ) → FitsSigned w32 v → int32_of (item_of v) ≡ Ok v
@@ -47,11 +39,11 @@ unfolding item_of
 AreBytes-item_of v = AreBytes-word (cast_unsigned w32 v)
 
 -- what is enciphered of an int32 opens to it
-sealed_in-server_value : (header : Header) (number : ℕ) (iv : List ℕ) (v : ℤ) (payload : Payload) → HasBytes header → length iv ≡ 16 → FitsSigned w32 v
-    → IsSent header number (item_of v) payload → sealed_in header (server_value payload.cipher.0 iv payload.value) ≡ Ok v
-sealed_in-server_value header number iv v payload has long fits sent =
+sealed_in-enciphered : (header : Header) (number : ℕ) (iv : List ℕ) (v : ℤ) (payload : Payload) → HasBytes header → length iv ≡ 16 → FitsSigned w32 v
+    → IsSent header number (item_of v) payload → sealed_in header (enciphered payload.cipher.0 iv payload.value) ≡ Ok v
+sealed_in-enciphered header number iv v payload has long fits sent =
     sealed_in-sent header header.field.key header.field.key_id payload.cipher.0 _ payload.value refl refl sent.cipher
-    (sym (deciphered-server_value payload.cipher.0 iv payload.value long))
+    (sym (deciphered-enciphered payload.cipher.0 iv payload.value long))
     ∙ value_sent-own header.field.key header.field.key_id payload.value
     ((bytes_eq-Decides (take 16 payload.value) header.field.key_id).1
     (ap (take 16) sent.value ∙ take_at header.field.key_id sent.sealed 16 has.id.long))
@@ -68,7 +60,7 @@ pub value_in-stored : (header : Header) (number count : ℕ) (ivs : ServerIvs) (
 unfolding indexed_of
 value_in-stored header number count ivs v payload stored has long fits sent laid_out =
     value_in-own header stored _ (parts_are _ stored laid_out) ((bytes_eq-Decides payload.key_id header.field.key_id).1 sent.key_id)
-    ∙ sealed_in-server_value header number ivs.value v payload has long fits sent
+    ∙ sealed_in-enciphered header number ivs.value v payload has long fits sent
 
 -- each stored value opens
 abbrev pub AllOpen : Header → List Stored → Type 0

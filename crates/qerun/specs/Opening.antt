@@ -11,7 +11,7 @@ use Rattle.qe_seal.specs.Sealed.{opened_value}
 use Rattle.qe_seal.specs.declared.sealed.SealFault.{SealFault}
 use Rattle.qe_seal.specs.declared.sealed.SealFault.TheVariants as seal
 use Rattle.qe_tokens.specs.Tokens.{root_key_of, server_cipher_of}
-use Rattle.qerun.specs.Stored.{deciphered}
+use Rattle.qe_indexed.specs.Block.{deciphered}
 use Rattle.qerun.specs.declared.answer.Answer.{Answer}
 use Rattle.qerun.specs.declared.answer.Answer.TheVariants as answer
 use Rattle.qerun.specs.declared.document.Document.{Document}

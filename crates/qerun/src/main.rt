@@ -1,7 +1,8 @@
-//! `qerun` runs scripts of Queryable Encryption: a client that holds the keys, and a server that sees tokens alone.
+//! `qerun` runs scripts of Queryable Encryption, by a client that holds the keys and a server that sees tokens alone, and
+//! shows what is in blobs.
 //!
-//! `replay` is the one call: its contract says that the replies are those of a plain list of documents. Read: top,
-//! run, client, server; the definitions in `specs/` stand in the same order.
+//! `replay` is the one call: its contract says that the replies are those of a plain list of documents, and that the
+//! lines show the blobs. Read: top, task, run, client, server; the definitions in `specs/` stand in the same order.
 #![tactic(auto)]
 
 mod answer;

@@ -1,6 +1,7 @@
 ghost use Rattle.std.specs.Prelude.{◌≡◌, length, IfOk};
 ghost use Rattle.qe_indexed.specs.Layout.{IsLaidOut};
-ghost use Rattle.qerun.specs.Stored.{server_value, deciphered, indexed_of};
+ghost use Rattle.qe_indexed.specs.Block.{enciphered, deciphered};
+ghost use Rattle.qerun.specs.Stored.{indexed_of};
 
 use crate::request::Payload;
 use qe_aes::ctr;
@@ -82,14 +83,13 @@ fn equality_value(
 }
 
 /// The IV, and the counter mode of the bytes under it.
-#[tactic(auto, unfolding(crate::specs::Stored::server_value))]
 fn server_value(
     alloc: Global,
     cipher: &ServerDataLevel1,
     iv: &[u8; 16],
     sent: &[u8],
 ) -> Result<Bytes, NoMemory>
-    ensures { IfOk result (λ value. value ≡ server_value cipher.now.0 iv.now sent.now) }
+    ensures { IfOk result (λ value. value ≡ enciphered cipher.now.0 iv.now sent.now) }
 {
     let mut bytes = Vec::from_slice(alloc, sent)?;
     ctr(&cipher.0, iv, bytes.as_mut_slice());
@@ -99,7 +99,6 @@ fn server_value(
 }
 
 /// What was sent, of a stored value.
-#[tactic(auto, unfolding(crate::specs::Stored::deciphered))]
 pub fn deciphered(
     alloc: Global,
     cipher: &ServerDataLevel1,

@@ -23,7 +23,7 @@ const FIRST: &[u8] = b"{\"do\":\"insert\",\"doc\":{\"_id\":1,\"age\":5}}
 
 const REPLIES: &[u8] = b"inserted\nids 1\nids\nduplicate\n";
 
-// The status and what the sink holds of a run over memory, whose read calls of these numbers fail.
+// The status and what the sink holds of a script with the header, whose read calls of these numbers fail.
 fn played(
     alloc: Global,
     words: &[&str],
@@ -31,12 +31,23 @@ fn played(
     failing: &[u8],
     room: u64,
 ) -> Result<(Status, Vec<u8>), Fail> {
+    let mut bytes = Bytes::from_slice(alloc, HEADER).map_err(|_| "no memory")?;
+    bytes.extend(lines).map_err(|_| "no memory")?;
+    ended(alloc, words, bytes, failing, room)
+}
+
+// The same of an input as it is.
+fn ended(
+    alloc: Global,
+    words: &[&str],
+    bytes: Bytes,
+    failing: &[u8],
+    room: u64,
+) -> Result<(Status, Vec<u8>), Fail> {
     let mut given = Vec::new(alloc);
     for word in words {
         given.push(String::from_str(alloc, word)?)?;
     }
-    let mut bytes = Bytes::from_slice(alloc, HEADER).map_err(|_| "no memory")?;
-    bytes.extend(lines).map_err(|_| "no memory")?;
     let failing = Bytes::from_slice(alloc, failing).map_err(|_| "no memory")?;
     let mut source = MemorySource::new(bytes, failing);
     let mut sink = MemorySink::new(alloc, room).map_err(|_| "no memory")?;
@@ -172,10 +183,11 @@ fn a_failing_read_writes_nothing(rt: HostRuntime) -> Result<(), Fail> {
 #[test]
 fn refusals_print_their_lines(rt: HostRuntime) -> Result<(), Fail> {
     let usage: &[u8] = b"usage: qerun replay, show, make N SEED, crowd\n";
-    let table: [(&[&str], &[u8], Status, &[u8]); 6] = [
+    let table: [(&[&str], &[u8], Status, &[u8]); 7] = [
         (&["replay", "now"], FIRST, Status::BadWords, usage),
         (&[], FIRST, Status::BadWords, usage),
-        (&["show"], FIRST, Status::BadWords, usage),
+        (&["replay", "show"], FIRST, Status::BadWords, usage),
+        (&["show"], FIRST, Status::BadScript, b"bad line 1 NotHex\n"),
         (&["make", "100", "7"], FIRST, Status::BadWords, usage),
         (
             &["replay"],
@@ -188,6 +200,27 @@ fn refusals_print_their_lines(rt: HostRuntime) -> Result<(), Fail> {
     for (words, lines, status, text) in table {
         let (ended, held) = played(rt.alloc(), words, lines, &[], 99)?;
         assert_eq!(rt; ended, status);
+        assert_eq!(rt; held.as_slice(), text);
+    }
+    Ok(())
+}
+
+#[test]
+fn a_line_for_each_blob(rt: HostRuntime) -> Result<(), Fail> {
+    let table: [(&[u8], Status, &[u8]); 4] = [
+        (b"", Status::Done, b""),
+        (
+            b"0a00\n\n0c05",
+            Status::Done,
+            b"malformed . BlobSubtype 10\nmalformed . Bson Short 1\n",
+        ),
+        (b"0a00\nzz\n0", Status::BadScript, b"bad line 2 NotHex\n"),
+        (b"\n 0a\n", Status::BadScript, b"bad line 2 NotHex\n"),
+    ];
+    for (lines, status, text) in table {
+        let bytes = Bytes::from_slice(rt.alloc(), lines).map_err(|_| "no memory")?;
+        let (got, held) = ended(rt.alloc(), &["show"], bytes, &[], 99)?;
+        assert_eq!(rt; got, status);
         assert_eq!(rt; held.as_slice(), text);
     }
     Ok(())

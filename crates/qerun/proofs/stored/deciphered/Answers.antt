@@ -2,12 +2,10 @@ use Rattle.std.proofs.Common.{◌≡◌, [], drop, take, sym, ap, ◌∙◌, ari
 use Rattle.std.proofs.lemmas.List.{drop_all, nil_from_length}
 use Rattle.qe_aes.specs.CounterMode.{counter_mode}
 use Rattle.qe_aes.proofs.CounterLemmas.{counter_mode-IsCounterMode}
-use Rattle.qerun.specs.Stored.{deciphered}
 use Rattle.qerun.proofs.stored.deciphered.Goals as goal
 
 -- a value without a whole IV holds nothing
 pub returns-then-value-lt-IV_LEN : goal.returns-then-value-lt-IV_LEN
-unfolding deciphered
 returns-then-value-lt-IV_LEN c =
     let key = c.args.cipher.now.0 in
     let iv = take 16 c.args.value.now in

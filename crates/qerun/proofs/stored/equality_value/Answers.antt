@@ -2,16 +2,16 @@ use Rattle.std.proofs.Common.{◌≡◌, ℕ, ◌+◌, ◌++◌, ◌∷◌, [], 
 use Rattle.std.proofs.lemmas.List.{length-append}
 use Rattle.qe_aes.specs.CounterMode.{counter_mode}
 use Rattle.qe_indexed.specs.declared.block.Block.{Block}
-use Rattle.qerun.specs.Stored.{server_value, indexed_of}
+use Rattle.qe_indexed.specs.Block.{enciphered}
+use Rattle.qerun.specs.Stored.{indexed_of}
 use Rattle.qerun.proofs.stored.equality_value.Goals as goal
 
 pub invariant_of-result : goal.invariant_of-result
-unfolding server_value
 invariant_of-result c =
     let iv = c.args.ivs.now.value in
     let cipher = counter_mode c.args.payload.now.cipher.0 iv c.args.payload.now.value in
     let long : length c.in_ok-server_value.server_value ≡ length iv + length cipher =
-    ap length c.in_ok-server_value.ensures ∙ ap (λ (sent : List ℕ). length (server_value c.args.payload.now.cipher.0 iv sent)) c.slice.ensures ∙ length-append iv cipher in
+    ap length c.in_ok-server_value.ensures ∙ ap (λ (sent : List ℕ). length (enciphered c.args.payload.now.cipher.0 iv sent)) c.slice.ensures ∙ length-append iv cipher in
     let blocks : c.push.new.self ≡ record { 0 = c.make_block-block.result } ∷ [] =
     c.in_ok-push.ensures.ok ∙ ap (λ (first : List Block). first ++ record { 0 = c.make_block-block.result } ∷ []) c.new-blocks.ensures in
     let one = ap length blocks in
