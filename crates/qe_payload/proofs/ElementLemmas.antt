@@ -1,15 +1,14 @@
 -- Documents under a table, both ways: what a check without a refusal tells, and what makes it pass.
-use Rattle.std.proofs.Common.{◌≡◌, ℕ, ℤ, pos, negsuc, ◌≤ℤ◌, Bool, true, false, ◌||◌, List, [], ◌∷◌, length, refl, ap, sym, ◌∙◌, inl, inr, arith, if◌then◌else◌, Option, None, Some, eq-eqb}
+use Rattle.std.proofs.Common.{◌≡◌, ℕ, Bool, true, false, ◌||◌, List, [], ◌∷◌, refl, ap, sym, ◌∙◌, inl, inr, if◌then◌else◌, Option, None, Some}
 use Rattle.std.specs.Prelude.{bytes_eq}
 use Rattle.std.proofs.lemmas.Bool.{cases_Bool, cond-true, cond-false}
 use Rattle.std.proofs.lemmas.Slice.Eq.{bytes_eq-Decides}
 use Rattle.qe_bson.specs.Names.{value_named, is_named, Distinct}
 use Rattle.qe_bson.specs.declared.value.Plain.{Plain}
-use Rattle.qe_bson.specs.declared.value.Plain.TheVariants.{Binary, Int64}
 use Rattle.qe_payload.specs.declared.malformed.Kind.{Kind}
 use Rattle.qe_payload.specs.Refusal.{Refusal, here, first_of_two, first_of}
-use Rattle.qe_payload.specs.Shapes.{Shape, binary, natural, sign_kind}
-use Rattle.qe_payload.specs.Elements.{Element, Rule, Table, Needs, kind_at, by_table, lacking, missing, HasBinary, HasNatural, one_of, HasOnly, Holds}
+use Rattle.qe_payload.specs.Shapes.{Shape}
+use Rattle.qe_payload.specs.Elements.{Element, Rule, Table, Needs, kind_at, by_table, lacking, missing, one_of, HasOnly, Holds}
 
 -- no element is refused
 abbrev pub IsClean : Rule → List Element → Type 0
@@ -23,7 +22,7 @@ pub here_none : (name : List ℕ) (kind : Option Kind) → here name kind ≡ No
 here_none name None none = refl
 here_none name (Some kind) none = absurd (cc)
 
-some_one : {X : Type 0} (x y : X) → Some x ≡ Some y → x ≡ y
+pub some_one : {X : Type 0} (x y : X) → Some x ≡ Some y → x ≡ y
 some_one x y same = cc
 
 -- the element that a look-up finds is not refused
@@ -134,20 +133,3 @@ from_names P (n ∷ names) name each one = by_test (from_names P names name each
     by_test : (one_of names name ≡ true → P name) → (b : Bool) → (b ≡ true → name ≡ n) → (b || one_of names name) ≡ true → P name
     by_test rest true same one = rw (same refl) each.0
     by_test rest false same one = rest one
-
--- elements of the relation pass their shapes
-pub binary_passes : (elements : List Element) (name : List ℕ) (subtype count : ℕ) (bytes : List ℕ) → HasBinary elements name subtype count bytes
-    → (value : Plain) → value_named name elements ≡ Some value → binary subtype count value ≡ None
-binary_passes elements name subtype count bytes has value found =
-    let value_is : Binary subtype bytes ≡ value = some_one (Binary subtype bytes) value (sym has.found ∙ found) in
-    ap (binary subtype count) (sym value_is) ∙ rw (eq-eqb subtype subtype refl, eq-eqb (length bytes) count has.long) refl
-
-pub natural_passes : (elements : List Element) (name : List ℕ) (number : ℤ) → HasNatural elements name number
-    → (value : Plain) → value_named name elements ≡ Some value → natural value ≡ None
-natural_passes elements name number has value found =
-    let value_is : Int64 number ≡ value = some_one (Int64 number) value (sym has.found ∙ found) in
-    ap natural (sym value_is) ∙ sign number has.natural
-  where
-    sign : (z : ℤ) → pos 0 ≤ℤ z → sign_kind z ≡ None
-    sign (pos n) le = refl
-    sign (negsuc n) le = absurd (omega arith)

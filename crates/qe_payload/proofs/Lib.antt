@@ -1,8 +1,10 @@
 pub mod ElementLemmas
+pub mod TableLemmas
 pub mod ScanLemmas
 pub mod BlobLemmas
 pub mod EqualLemmas
 pub mod ArrayLemmas
+pub mod EntryLemmas
 pub mod EdgeLemmas
 pub mod InsertLemmas
 pub mod PickedLemmas

@@ -1,18 +1,13 @@
 -- Elements that are picked by their names, and insert payloads in written order.
-use Rattle.std.proofs.Common.{◌≡◌, ℕ, ◌≤◌, ◌≤ℤ◌, pos, List, [], ◌∷◌, ◌++◌, length, map, refl, ap, sym, subst, ◌∙◌, arith, Option, None, Some, true, false, Result, Ok, Err}
+use Rattle.std.proofs.Common.{◌≡◌, ℕ, ◌≤◌, ◌≤ℤ◌, pos, List, [], ◌∷◌, ◌++◌, length, refl, sym, subst, ◌∙◌, Option, None, Some, true, false, Result, Ok, Err}
 use Rattle.std.specs.Prelude.{codes, bytes_eq, OnOk}
 use Rattle.std.proofs.lemmas.Bool.{or_parts}
-use Rattle.std.proofs.lemmas.List.{length-map}
 use Rattle.qe_bson.specs.Names.{value_named, is_named, Distinct}
 use Rattle.qe_bson.specs.declared.value.Plain.{Plain}
-use Rattle.qe_bson.specs.declared.value.Plain.TheVariants.{Array}
-use Rattle.qe_bson.proofs.PlainLemmas.{out-Array, out-Doc}
-use Rattle.qe_payload.specs.declared.insert.EdgeTokens.{EdgeTokens}
 use Rattle.qe_payload.specs.declared.insert.InsertPayload.{InsertPayload}
 use Rattle.qe_payload.specs.Elements.{Element, HasOnly, one_of}
-use Rattle.qe_payload.specs.Arrays.{fields_open, fields_of, items_open, items_of}
-use Rattle.qe_payload.specs.Insert.{insert_names, extra_names, picked_one, picked, edge_elements, edge_tree, edges_value, insert_elements}
-use Rattle.qe_payload.specs.Insert.{HasLongEdge, HasLongParts, IsEdge, IsEdgeIn, AreEdges, IsEdgeList, AreOptionalEdges, IsInsert}
+use Rattle.qe_payload.specs.Insert.{insert_names, extra_names, picked_one, picked, edges_value, insert_elements}
+use Rattle.qe_payload.specs.Insert.{HasLongParts, AreOptionalEdges, IsInsert}
 
 -- a name that is carried is new behind those of other names
 pub carried_new : (name other : List ℕ) (before : List Element) (value : Option Plain) → is_named name before ≡ false → bytes_eq name other ≡ false
@@ -140,38 +135,6 @@ insert_laid p long edges v_long natural extra =
           ),
         ),
       );
-    }
-
--- an edge's document is the edge's
-pub edge_laid : (edge : EdgeTokens) → HasLongEdge edge → IsEdgeIn edge (fields_of (edge_tree edge))
-unfolding fields_of
-edge_laid edge long =
-    let found : fields_of (edge_tree edge) ≡ Some (edge_elements edge) = ap fields_open (out-Doc (edge_elements edge)) in
-    let is : IsEdge edge (edge_elements edge) =
-    record {
-      d = record { found = refl; long = long.d };
-      s = record { found = refl; long = long.s };
-      l = record { found = refl; long = long.l };
-      p = record { found = refl; long = long.p };
-      only = (refl, (refl, (refl, (refl, tt))));
-      distinct = (refl, (refl, (refl, (refl, tt))));
-    }
-    in
-    subst (λ fields. IsEdgeIn edge fields) (sym found) is
-
-pub list_laid : (edges : List EdgeTokens) (trees : List Plain) → trees ≡ map edge_tree edges → (1 ≤ length edges) × (length edges ≤ 65) → AreEdges edges trees
-    → IsEdgeList edges (Array (map edge_tree edges))
-unfolding items_of
-list_laid edges trees same few are =
-    let size : length (map edge_tree edges) ≡ length edges = length-map edges edge_tree in
-    let some : 1 ≤ length edges = few.0 in
-    let most : length edges ≤ 65 = few.1 in
-    record {
-      items = map edge_tree edges;
-      array = ap items_open (out-Array (map edge_tree edges));
-      some = omega (arith, size, some);
-      few = omega (arith, size, most);
-      each = subst (λ items. AreEdges edges items) same are;
     }
 
 pub on_ok : {T E P : Type 0} (result : Result T E) → P → OnOk result P

@@ -1,7 +1,8 @@
 -- Documents inside documents, and arrays of documents, each under a table.
-use Rattle.std.specs.Prelude.{ℕ, ◌+◌, Bool, ◌&&◌, List, [], ◌∷◌, length, decimal, nat_lt, ◌==◌, if◌then◌else◌, Option, None, Some}
+use Rattle.std.specs.Prelude.{◌≡◌, ℕ, ◌+◌, ◌≤◌, Bool, true, false, ◌&&◌, List, [], ◌∷◌, length, map, decimal, nat_lt, ◌==◌, if◌then◌else◌, Option, None, Some}
 use Rattle.qe_bson.specs.declared.value.Plain.{Plain, out-Plain}
 use Rattle.qe_bson.specs.declared.value.Plain.TheOpen.{Plain-F}
+use Rattle.qe_bson.specs.declared.value.Plain.TheVariants.{Doc}
 use Rattle.qe_payload.specs.declared.malformed.Kind.{Kind}
 use Rattle.qe_payload.specs.declared.malformed.Kind.TheVariants.{WrongType, NoEdges, TooManyEdges}
 use Rattle.qe_payload.specs.Refusal.{Refusal, here, inside, first_of_two}
@@ -48,3 +49,32 @@ within_array some most rule needs name (Some items) =
 -- an array of documents that stands under a name: its type, its number of items, and then the items
 abbrev pub array_rule : Bool → ℕ → Rule → Needs → Rule
 array_rule some most rule needs name value = within_array some most rule needs name (items_of value)
+
+-- the elements are there, and are such
+abbrev pub IsDocument : (List Element → Type 0) → Option (List Element) → Type 0
+IsDocument P None = ⊥
+IsDocument P (Some elements) = P elements
+
+-- the items are documents of these entries, in order
+abbrev pub AreEach : {A : Type 0} → (A → List Element → Type 0) → List A → List Plain → Type 0
+AreEach Is [] [] = Unit {0}
+AreEach Is [] (item ∷ items) = ⊥
+AreEach Is (entry ∷ entries) [] = ⊥
+AreEach Is (entry ∷ entries) (item ∷ items) = IsDocument (Is entry) (fields_of item) × AreEach Is entries items
+
+-- how many there have to be
+abbrev pub least : Bool → ℕ
+least true = 1
+least false = 0
+
+-- an array of documents of these entries
+pub record IsList {A : Type 0} (Is : A → List Element → Type 0) (some : Bool) (most : ℕ) (entries : List A) (value : Plain) : Type 0 where
+  pub items : List Plain
+  pub array : items_of value ≡ Some items
+  pub many : least some ≤ length items
+  pub few : length items ≤ most
+  pub each : AreEach Is entries items
+
+-- entries as documents, of elements in written order
+abbrev pub trees : {A : Type 0} → (A → List Element) → List A → List Plain
+trees elements entries = map (λ entry. Doc (elements entry)) entries

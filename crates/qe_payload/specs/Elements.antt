@@ -44,6 +44,10 @@ missing elements need = lacking need (value_named need.0 elements)
 abbrev pub document_refusal : Rule → Needs → List Element → Option Refusal
 document_refusal rule needs elements = first_of_two (first_of (λ e. rule e.0 e.1) elements) (first_of (missing elements) needs)
 
+-- the elements are not refused
+abbrev pub IsFree : Rule → Needs → List Element → Type 0
+IsFree rule needs elements = document_refusal rule needs elements ≡ None
+
 -- the element is there, and is a binary of this subtype, length and bytes
 pub record HasBinary (elements : List Element) (name : List ℕ) (subtype count : ℕ) (bytes : List ℕ) : Type 0 where
   pub found : value_named name elements ≡ Some (Binary subtype bytes)

@@ -1,16 +1,16 @@
 -- InsertUpdatePayloadV2 of libmongocrypt: tokens of a value, the sealed value, and for a range the tokens of its edges.
-use Rattle.std.specs.Prelude.{◌≡◌, ℕ, ◌≤◌, true, false, List, [], ◌∷◌, ◌++◌, length, map, flat_map, codes, bytes_eq, if◌then◌else◌, Option, None, Some}
+use Rattle.std.specs.Prelude.{◌≡◌, ℕ, ◌≤◌, true, false, List, [], ◌∷◌, ◌++◌, length, flat_map, codes, bytes_eq, if◌then◌else◌, Option, None, Some}
 use Rattle.qe_bson.specs.Names.{Distinct, is_named, value_named}
 use Rattle.qe_bson.specs.Spelling.{document_bytes}
 use Rattle.qe_bson.specs.declared.value.Plain.{Plain}
-use Rattle.qe_bson.specs.declared.value.Plain.TheVariants.{Array, Binary, Doc, Int32, Int64}
+use Rattle.qe_bson.specs.declared.value.Plain.TheVariants.{Array, Binary, Int32, Int64}
 use Rattle.qe_payload.specs.declared.insert.EdgeTokens.{EdgeTokens}
 use Rattle.qe_payload.specs.declared.insert.InsertPayload.{InsertPayload}
 use Rattle.qe_payload.specs.declared.malformed.Kind.TheVariants.{Missing}
 use Rattle.qe_payload.specs.Refusal.{Refusal}
 use Rattle.qe_payload.specs.Shapes.{token, binary, at_least, int32, natural, carried}
 use Rattle.qe_payload.specs.Elements.{Element, Rule, Table, Needs, by_table, document_refusal, HasBinary, HasNatural, HasOnly}
-use Rattle.qe_payload.specs.Arrays.{fields_of, items_of, array_rule}
+use Rattle.qe_payload.specs.Arrays.{array_rule, IsList, trees}
 use Rattle.qe_payload.specs.Blobs.{blob_refusal, IsBlob}
 
 -- an edge: its three tokens, and the ciphered token of rows
@@ -26,9 +26,6 @@ edge_needs = (codes "d", Missing) ∷ (codes "s", Missing) ∷ (codes "l", Missi
 unfoldable pub edge_rule : Rule
 edge_rule name value = by_table edge_table name value
 
-unfoldable pub edge_refusal : List Element → Option Refusal
-edge_refusal elements = document_refusal edge_rule edge_needs elements
-
 pub record IsEdge (edge : EdgeTokens) (elements : List Element) : Type 0 where
   pub d : HasBinary elements (codes "d") 0 32 edge.d
   pub s : HasBinary elements (codes "s") 0 32 edge.s
@@ -37,29 +34,9 @@ pub record IsEdge (edge : EdgeTokens) (elements : List Element) : Type 0 where
   pub only : HasOnly edge_names elements
   pub distinct : Distinct elements
 
-abbrev pub IsEdgeIn : EdgeTokens → Option (List Element) → Type 0
-IsEdgeIn edge None = ⊥
-IsEdgeIn edge (Some elements) = IsEdge edge elements
-
--- an edge's document that is not refused
-abbrev pub IsEdgeDocument : Option (List Element) → Type 0
-IsEdgeDocument None = ⊥
-IsEdgeDocument (Some elements) = edge_refusal elements ≡ None
-
--- the items are documents of these edges, in order
-abbrev pub AreEdges : List EdgeTokens → List Plain → Type 0
-AreEdges [] [] = Unit {0}
-AreEdges [] (item ∷ items) = ⊥
-AreEdges (edge ∷ edges) [] = ⊥
-AreEdges (edge ∷ edges) (item ∷ items) = IsEdgeIn edge (fields_of item) × AreEdges edges items
-
 -- an array of 1 to 65 edges
-pub record IsEdgeList (edges : List EdgeTokens) (value : Plain) : Type 0 where
-  pub items : List Plain
-  pub array : items_of value ≡ Some items
-  pub some : 1 ≤ length items
-  pub few : length items ≤ 65
-  pub each : AreEdges edges items
+abbrev pub IsEdgeList : List EdgeTokens → Plain → Type 0
+IsEdgeList edges value = IsList IsEdge true 65 edges value
 
 -- a payload of a range has edges, another has none
 abbrev pub AreOptionalEdges : Option (List EdgeTokens) → Option Plain → Type 0
@@ -132,12 +109,9 @@ insert_blob_refusal blob = blob_refusal 11 insert_refusal blob
 abbrev pub edge_elements : EdgeTokens → List Element
 edge_elements edge = (codes "d", Binary 0 edge.d) ∷ (codes "s", Binary 0 edge.s) ∷ (codes "l", Binary 0 edge.l) ∷ (codes "p", Binary 0 edge.p) ∷ []
 
-abbrev pub edge_tree : EdgeTokens → Plain
-edge_tree edge = Doc (edge_elements edge)
-
 abbrev pub edges_value : Option (List EdgeTokens) → Option Plain
 edges_value None = None
-edges_value (Some edges) = Some (Array (map edge_tree edges))
+edges_value (Some edges) = Some (Array (trees edge_elements edges))
 
 abbrev pub needed_elements : InsertPayload → List Element
 needed_elements payload =
@@ -160,12 +134,6 @@ FewEdges (Some edges) = (1 ≤ length edges) × (length edges ≤ 65)
 abbrev pub AreNew : List (List ℕ) → List Element → Type 0
 AreNew [] elements = Unit {0}
 AreNew (name ∷ names) elements = (is_named name elements ≡ false) × AreNew names elements
-
-pub record HasLongEdge (edge : EdgeTokens) : Type 0 where
-  pub d : length edge.d ≡ 32
-  pub s : length edge.s ≡ 32
-  pub l : length edge.l ≡ 32
-  pub p : length edge.p ≡ 48
 
 pub record HasLongParts (payload : InsertPayload) : Type 0 where
   pub d : length payload.d ≡ 32

@@ -1,5 +1,5 @@
 -- FindRangePayloadV2 of libmongocrypt: tokens of the edges of a range, the greatest contention factor, and the range's two operators.
-use Rattle.std.specs.Prelude.{◌≡◌, ℕ, ℤ, pos, ◌≤◌, false, List, [], ◌∷◌, ◌++◌, length, map, codes, bytes_eq, if◌then◌else◌, Option, None, Some}
+use Rattle.std.specs.Prelude.{◌≡◌, ℕ, ℤ, pos, false, List, [], ◌∷◌, ◌++◌, codes, bytes_eq, if◌then◌else◌, Option, None, Some}
 use Rattle.std.specs.Ordering.{int_eq}
 use Rattle.qe_bson.specs.Names.{Distinct, value_named}
 use Rattle.qe_bson.specs.Spelling.{document_bytes}
@@ -11,7 +11,7 @@ use Rattle.qe_payload.specs.declared.malformed.Kind.TheVariants.{Missing, Profil
 use Rattle.qe_payload.specs.Refusal.{Refusal}
 use Rattle.qe_payload.specs.Shapes.{Shape, token, int32, natural, carried}
 use Rattle.qe_payload.specs.Elements.{Element, Rule, Table, Needs, by_table, document_refusal, HasBinary, HasNatural, HasOnly}
-use Rattle.qe_payload.specs.Arrays.{fields_of, items_of, document_rule, array_rule}
+use Rattle.qe_payload.specs.Arrays.{fields_of, document_rule, array_rule, IsList, trees}
 use Rattle.qe_payload.specs.Insert.{extra_names, picked}
 use Rattle.qe_payload.specs.Blobs.{blob_refusal, IsBlob}
 
@@ -33,9 +33,6 @@ find_edge_needs = (codes "d", Missing) ∷ (codes "s", Missing) ∷ (codes "l", 
 unfoldable pub find_edge_rule : Rule
 find_edge_rule name value = by_table find_edge_table name value
 
-unfoldable pub find_edge_refusal : List Element → Option Refusal
-find_edge_refusal elements = document_refusal find_edge_rule find_edge_needs elements
-
 pub record IsFindEdge (edge : FindEdge) (elements : List Element) : Type 0 where
   pub d : HasBinary elements (codes "d") 0 32 edge.d
   pub s : HasBinary elements (codes "s") 0 32 edge.s
@@ -43,28 +40,9 @@ pub record IsFindEdge (edge : FindEdge) (elements : List Element) : Type 0 where
   pub only : HasOnly find_edge_names elements
   pub distinct : Distinct elements
 
-abbrev pub IsFindEdgeIn : FindEdge → Option (List Element) → Type 0
-IsFindEdgeIn edge None = ⊥
-IsFindEdgeIn edge (Some elements) = IsFindEdge edge elements
-
--- an edge's document that is not refused
-abbrev pub IsFindEdgeDocument : Option (List Element) → Type 0
-IsFindEdgeDocument None = ⊥
-IsFindEdgeDocument (Some elements) = find_edge_refusal elements ≡ None
-
--- the items are documents of these edges, in order
-abbrev pub AreFindEdges : List FindEdge → List Plain → Type 0
-AreFindEdges [] [] = Unit {0}
-AreFindEdges [] (item ∷ items) = ⊥
-AreFindEdges (edge ∷ edges) [] = ⊥
-AreFindEdges (edge ∷ edges) (item ∷ items) = IsFindEdgeIn edge (fields_of item) × AreFindEdges edges items
-
 -- an array of at most 4,096 edges
-pub record IsFindEdgeList (edges : List FindEdge) (value : Plain) : Type 0 where
-  pub items : List Plain
-  pub array : items_of value ≡ Some items
-  pub few : length items ≤ 4096
-  pub each : AreFindEdges edges items
+abbrev pub IsFindEdgeList : List FindEdge → Plain → Type 0
+IsFindEdgeList edges value = IsList IsFindEdge false 4096 edges value
 
 -- the document of the edges and of the greatest contention factor
 abbrev pub inner_table : Table
@@ -141,11 +119,8 @@ range_blob_refusal blob = blob_refusal 13 range_refusal blob
 abbrev pub find_edge_elements : FindEdge → List Element
 find_edge_elements edge = (codes "d", Binary 0 edge.d) ∷ (codes "s", Binary 0 edge.s) ∷ (codes "l", Binary 0 edge.l) ∷ []
 
-abbrev pub find_edge_tree : FindEdge → Plain
-find_edge_tree edge = Doc (find_edge_elements edge)
-
 abbrev pub inner_elements : FindRange → List Element
-inner_elements payload = (codes "g", Array (map find_edge_tree payload.g)) ∷ (codes "cm", Int64 payload.cm) ∷ []
+inner_elements payload = (codes "g", Array (trees find_edge_elements payload.g)) ∷ (codes "cm", Int64 payload.cm) ∷ []
 
 -- the needed elements, round an inner document
 abbrev pub head_elements : FindRange → List Element → List Element
@@ -158,8 +133,3 @@ range_elements payload = head_elements payload (inner_elements payload) ++ paylo
 
 unfoldable pub written_range : FindRange → List ℕ
 written_range payload = 13 ∷ document_bytes (range_elements payload)
-
-pub record HasLongFindEdge (edge : FindEdge) : Type 0 where
-  pub d : length edge.d ≡ 32
-  pub s : length edge.s ≡ 32
-  pub l : length edge.l ≡ 32

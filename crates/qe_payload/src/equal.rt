@@ -2,6 +2,7 @@
 
 ghost use Rattle.std.specs.Prelude.{◌≡◌, ◌≤ℤ◌, pos, IfOk, IfErr, None};
 ghost use Rattle.qe_bson.specs.Names.{Distinct};
+ghost use Rattle.qe_bson.specs.Writing.{IsWhyRefused};
 ghost use Rattle.qe_payload.specs.Refusal.{Checks};
 ghost use Rattle.qe_payload.specs.Equal.{equal_rule, equal_needs, equal_refusal, equal_blob_refusal, IsEqual, IsEqualBlob, equal_elements, written_equal, HasLongTokens};
 ghost use Rattle.qe_payload.specs.declared.equal.FindEqual.{FindEqual};
@@ -79,11 +80,14 @@ pub fn read_equal(alloc: Global, blob: &[u8]) -> Result<FindEqual, Malformed>
 }
 
 /// The blob of a payload, its elements in the order of the type's fields. `read_equal` reads the payload again.
+///
+/// `cm` is 0 or more. It is refused as `encode` refuses the payload's document.
 #[tactic(auto, unfolding(crate::specs::Equal::written_equal))]
 pub fn write_equal(alloc: Global, payload: &FindEqual) -> Result<Bytes, EncodeFault>
     requires { pos 0 ≤ℤ payload.now.cm }
     ensures written { IfOk result (λ blob. blob ≡ written_equal payload.now) }
     ensures again { IfOk result (λ blob. IsEqualBlob payload.now blob) }
+    ensures err { IfErr result (IsWhyRefused (equal_elements payload.now)) }
 {
     match document_of(alloc, payload) {
         Ok(document) => blob_of(alloc, FIRST, &document),

@@ -1,22 +1,21 @@
 //! Insert payloads: InsertUpdatePayloadV2.
 
-ghost use Rattle.std.specs.Prelude.{◌≡◌, ◌++◌, ◌∷◌, [], map, codes, true, false, IfOk, IfErr, OnOk, None};
+ghost use Rattle.std.specs.Prelude.{◌≡◌, ◌++◌, ◌∷◌, [], codes, false, IfOk, IfErr, OnOk, None};
 ghost use Rattle.qe_bson.specs.Names.{Distinct, is_named, value_named};
 ghost use Rattle.qe_bson.specs.Views.{plain};
 ghost use Rattle.qe_payload.specs.Refusal.{Checks};
-ghost use Rattle.qe_payload.specs.Arrays.{fields_of, items_refusal, array_rule};
-ghost use Rattle.qe_payload.specs.Insert.{edge_rule, edge_needs, edge_refusal, IsEdge, IsEdgeIn, IsEdgeDocument, AreEdges, IsEdgeList, AreOptionalEdges};
 ghost use Rattle.qe_payload.specs.Elements.{kind_at};
-ghost use Rattle.qe_payload.specs.Insert.{insert_table, insert_refusal, insert_blob_refusal, extra_names, picked_one, picked, AreNew, IsInsert, IsInsertBlob};
+ghost use Rattle.qe_payload.specs.Insert.{insert_table, insert_refusal, insert_blob_refusal, extra_names, picked_one, picked, AreNew, AreOptionalEdges, IsInsert, IsInsertBlob};
 ghost use Rattle.qe_payload.specs.declared.insert.InsertPayload.{InsertPayload};
 
 use crate::arrays::{Bounds, check_array};
 use crate::blob::open_blob;
+use crate::entries::{Entry, list_in};
 use crate::held::{array_at, bytes_at, int32_at, natural_at};
 use crate::layout::{Layout, check, need};
 use crate::malformed::{Kind, Malformed, check_here};
 use crate::shape::{at_least, binary, int32, natural, token};
-use crate::written::put;
+use crate::written::{bytes_of, put, put_binary};
 use qe_base::{Bytes, Duplicate, Listing, NoMemory};
 use qe_bson::{Document, Value};
 use std::alloc::Global;
@@ -100,6 +99,43 @@ impl Layout for EdgeElements {
     }
 }
 
+impl Entry for EdgeTokens {
+    ghost use Rattle.std.specs.Prelude.{true};
+    ghost use Rattle.qe_payload.specs.Insert.{edge_rule, edge_needs, edge_elements, IsEdge};
+
+    ghost rule = { edge_rule };
+
+    ghost needs = { edge_needs };
+
+    ghost laid = { IsEdge };
+
+    ghost elements = { edge_elements };
+
+    ghost some = { true };
+
+    ghost most = { 65 };
+
+    fn read(document: &Document) -> Self {
+        // The length is asked for since its clause says that the names are distinct.
+        let _count = document.len();
+        EdgeTokens {
+            d: array_at(document, "d", 0),
+            s: array_at(document, "s", 0),
+            l: array_at(document, "l", 0),
+            p: array_at(document, "p", 0),
+        }
+    }
+
+    fn write(&self, alloc: Global) -> Result<Document, NoMemory> {
+        let mut document = Document::new(alloc);
+        put_binary(alloc, &mut document, "d", 0, bytes_of(&self.d))?;
+        put_binary(alloc, &mut document, "s", 0, bytes_of(&self.s))?;
+        put_binary(alloc, &mut document, "l", 0, bytes_of(&self.l))?;
+        put_binary(alloc, &mut document, "p", 0, bytes_of(&self.p))?;
+        Ok(document)
+    }
+}
+
 // The elements of the payload.
 #[derive(Clone, Copy)]
 struct InsertElements;
@@ -162,20 +198,6 @@ pub fn check_insert(alloc: Global, document: &Document) -> Result<(), Malformed>
     check(alloc, &InsertElements, document)
 }
 
-fn edge_of(document: &Document) -> EdgeTokens
-    requires { edge_refusal document.now ≡ None }
-    ensures { IsEdge result document.now }
-{
-    // The length is asked for since its clause says that the names are distinct.
-    let _count = document.len();
-    EdgeTokens {
-        d: array_at(document, "d", 0),
-        s: array_at(document, "s", 0),
-        l: array_at(document, "l", 0),
-        p: array_at(document, "p", 0),
-    }
-}
-
 fn carry(
     alloc: Global,
     document: &Document,
@@ -221,38 +243,6 @@ pub(crate) fn extra_of(alloc: Global, document: &Document) -> Result<Document, N
     Ok(extra)
 }
 
-fn edge_in(item: &Value) -> EdgeTokens
-    requires { IsEdgeDocument (fields_of (plain item.now)) }
-    ensures { IsEdgeIn result (fields_of (plain item.now)) }
-{
-    match item.as_document() {
-        Some(document) => edge_of(document),
-        None => unreachable!(),
-    }
-}
-
-fn edges_of(alloc: Global, items: &[Value]) -> Result<EdgeList, NoMemory>
-    requires { items_refusal edge_rule edge_needs 0 (map plain items.now) ≡ None }
-    ensures { IfOk result (λ edges. AreEdges edges (map plain items.now)) }
-{
-    let mut edges = EdgeList::new(alloc);
-    for i in 0..items.len() {
-        let edge = edge_in(&items[i]);
-        edges.push(edge)?;
-    }
-    Ok(edges)
-}
-
-fn edges_in(alloc: Global, value: &Value) -> Result<EdgeList, NoMemory>
-    requires { array_rule true 65 edge_rule edge_needs (codes "g") (plain value.now) ≡ None }
-    ensures { IfOk result (λ edges. IsEdgeList edges (plain value.now)) }
-{
-    match value.as_array() {
-        Some(items) => edges_of(alloc, items.slice()),
-        None => unreachable!(),
-    }
-}
-
 fn edges_at(alloc: Global, document: &Document) -> Result<Option<EdgeList>, NoMemory>
     requires { insert_refusal document.now ≡ None }
     ensures { IfOk result (λ edges. AreOptionalEdges edges (value_named (codes "g") document.now)) }
@@ -260,7 +250,7 @@ fn edges_at(alloc: Global, document: &Document) -> Result<Option<EdgeList>, NoMe
     match document.get("g") {
         None => Ok(None),
         Some(value) => {
-            let edges = edges_in(alloc, value)?;
+            let edges = list_in(alloc, value)?;
             Ok(Some(edges))
         }
     }

@@ -209,14 +209,15 @@ fn refusals_of_an_insert_payload(rt: HostRuntime) -> Result<(), Fail> {
     Ok(())
 }
 
+// A payload that is cut lacks bytes wherever it is cut.
 #[test]
 fn cut_insert_payloads_are_refused(rt: HostRuntime) -> Result<(), Fail> {
-    for place in [0, 4, 99, 350] {
-        let mut blob = hex::decode(rt.alloc(), WRITTEN)?;
-        blob.truncate(place as usize + 1);
+    let blob = hex::decode(rt.alloc(), WRITTEN)?;
+    check_refusal(&rt, rt.alloc(), &[], ".", Kind::Empty)?;
+    for place in 0..blob.len().saturating_sub(1) {
         let kind = BsonKind::Short;
         let fault = BsonFault::At { place, kind };
-        check_refusal(&rt, rt.alloc(), blob.as_slice(), ".", Kind::Bson(fault))?;
+        check_refusal(&rt, rt.alloc(), &blob[..place + 1], ".", Kind::Bson(fault))?;
     }
     Ok(())
 }

@@ -1,21 +1,22 @@
 //! Insert payloads that are written.
 
-ghost use Rattle.std.specs.Prelude.{◌≡◌, ◌≤◌, ◌≤ℤ◌, ◌++◌, pos, codes, length, map, false, IfOk, OnOk};
+ghost use Rattle.std.specs.Prelude.{◌≡◌, ◌≤◌, ◌≤ℤ◌, ◌++◌, pos, codes, length, false, IfOk, IfErr, OnOk};
 ghost use Rattle.qe_bson.specs.Names.{is_named};
-ghost use Rattle.qe_bson.specs.Views.{plain};
-ghost use Rattle.qe_payload.specs.Insert.{edge_tree, edges_value, needed_elements, insert_elements, written_insert, extra_names, picked_one, picked};
-ghost use Rattle.qe_payload.specs.Insert.{FewEdges, HasLongEdge, HasLongParts, AreEdges, AreOptionalEdges, IsInsert, IsInsertBlob};
+ghost use Rattle.qe_bson.specs.Writing.{IsWhyRefused};
+ghost use Rattle.qe_payload.specs.Insert.{edges_value, needed_elements, insert_elements, written_insert, extra_names, picked_one, picked};
+ghost use Rattle.qe_payload.specs.Insert.{FewEdges, HasLongParts, AreOptionalEdges, IsInsert, IsInsertBlob};
 
-use crate::insert::{EdgeList, EdgeTokens, FIRST, InsertPayload, carry_all};
+use crate::entries::array_of;
+use crate::insert::{EdgeList, FIRST, InsertPayload, carry_all};
 use crate::written::{blob_of, bytes_of, put, put_binary};
 use qe_base::{Bytes, NoMemory};
-use qe_bson::{Document, EncodeFault, Value, Values};
+use qe_bson::{Document, EncodeFault, Value};
 use std::alloc::Global;
 
 /// The blob of a payload, its elements in the order of the type's fields. `read_insert` reads the payload again.
 ///
 /// `v` has 80 bytes or more, `k` is 0 or more, `g` has 1 to 65 edges, and `extra` has only the names `sp`, `pn`, `tf`,
-/// `mn` and `mx`, in this order.
+/// `mn` and `mx`, in this order. It is refused as `encode` refuses the payload's document.
 #[tactic(auto, unfolding(crate::specs::Insert::written_insert))]
 pub fn write_insert(alloc: Global, payload: &InsertPayload) -> Result<Bytes, EncodeFault>
     requires value { 80 ≤ length payload.now.v }
@@ -24,6 +25,7 @@ pub fn write_insert(alloc: Global, payload: &InsertPayload) -> Result<Bytes, Enc
     requires extra { payload.now.extra ≡ picked extra_names payload.now.extra }
     ensures written { IfOk result (λ blob. blob ≡ written_insert payload.now) }
     ensures again { IfOk result (λ blob. IsInsertBlob payload.now blob) }
+    ensures err { IfErr result (IsWhyRefused (insert_elements payload.now)) }
 {
     match document_of(alloc, payload) {
         Ok(document) => blob_of(alloc, FIRST, &document),
@@ -75,32 +77,8 @@ fn put_edges(
     match edges {
         None => Ok(()),
         Some(list) => {
-            let trees = trees_of(alloc, list.slice())?;
-            put(alloc, document, "g", Value::Array(trees))
+            let array = array_of(alloc, list.slice())?;
+            put(alloc, document, "g", array)
         }
     }
-}
-
-fn trees_of(alloc: Global, edges: &[EdgeTokens]) -> Result<Values, NoMemory>
-    ensures trees { IfOk result (λ trees. trees ≡ map edge_tree edges.now) }
-    ensures are { IfOk result (λ trees. AreEdges edges.now trees) }
-{
-    let mut trees = Values::new(alloc);
-    for i in 0..edges.len() {
-        let tree = edge_value(alloc, &edges[i])?;
-        trees.push(tree)?;
-    }
-    Ok(trees)
-}
-
-fn edge_value(alloc: Global, edge: &EdgeTokens) -> Result<Value, NoMemory>
-    ensures tree { IfOk result (λ tree. plain tree ≡ edge_tree edge.now) }
-    ensures long { IfOk result (λ _. HasLongEdge edge.now) }
-{
-    let mut document = Document::new(alloc);
-    put_binary(alloc, &mut document, "d", 0, bytes_of(&edge.d))?;
-    put_binary(alloc, &mut document, "s", 0, bytes_of(&edge.s))?;
-    put_binary(alloc, &mut document, "l", 0, bytes_of(&edge.l))?;
-    put_binary(alloc, &mut document, "p", 0, bytes_of(&edge.p))?;
-    Ok(Value::Doc(document))
 }

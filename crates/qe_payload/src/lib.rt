@@ -3,12 +3,13 @@
 //! A blob is one byte that says its kind, and one BSON document. A reader answers a payload exactly where the blob is
 //! laid out as one, with its elements in any order, and else the first refusal and its path: the elements in the order
 //! in which they stand, each by its name and value alone, and then the names that aren't there. A kind is a table of
-//! names and shapes over the one `check`. Read: malformed, shape, layout, arrays, held, blob, written, equal, insert,
-//! insert_written, range, range_written.
+//! names and shapes over the one `check`. Read: malformed, shape, layout, arrays, held, blob, written, equal, entries,
+//! insert, insert_written, range, range_written.
 #![tactic(auto)]
 
 mod arrays;
 mod blob;
+mod entries;
 mod equal;
 mod held;
 mod insert;

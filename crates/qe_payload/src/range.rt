@@ -1,22 +1,24 @@
 //! Find payloads of ranges: FindRangePayloadV2.
 
-ghost use Rattle.std.specs.Prelude.{◌≡◌, map, codes, IfOk, IfErr, OnOk, None, Some, false};
+ghost use Rattle.std.specs.Prelude.{◌≡◌, codes, IfOk, IfErr, OnOk, None, Some, false};
 ghost use Rattle.qe_bson.specs.Names.{Distinct, value_named};
 ghost use Rattle.qe_bson.specs.Views.{plain};
 ghost use Rattle.qe_payload.specs.Refusal.{Checks};
-ghost use Rattle.qe_payload.specs.Arrays.{fields_of, items_refusal, array_rule};
+ghost use Rattle.qe_payload.specs.Arrays.{array_rule};
 ghost use Rattle.qe_payload.specs.Range as ranges;
-ghost use Rattle.qe_payload.specs.Range.{find_edge_rule, find_edge_needs, find_edge_refusal, IsFindEdge, IsFindEdgeIn, IsFindEdgeDocument, AreFindEdges, IsFindEdgeList};
+ghost use Rattle.qe_payload.specs.Range.{find_edge_rule, find_edge_needs};
 ghost use Rattle.qe_payload.specs.Range.{inner_refusal, HasDocument, range_refusal, range_blob_refusal, IsInner, IsRange, IsRangeBlob};
 ghost use Rattle.qe_payload.specs.declared.range.FindRange.{FindRange};
 
 use crate::arrays::{Bounds, check_array, check_document};
 use crate::blob::open_blob;
+use crate::entries::{Entry, list_in};
 use crate::held::{array_at, int32_at, natural_at};
 use crate::insert::extra_of;
 use crate::layout::{Layout, check, need};
 use crate::malformed::{Kind, Malformed, check_here};
 use crate::shape::{int32, natural, token};
+use crate::written::{bytes_of, put_binary};
 use qe_base::{Listing, NoMemory};
 use qe_bson::{Document, Value};
 use std::alloc::Global;
@@ -104,6 +106,41 @@ impl Layout for FindEdgeElements {
     }
 }
 
+impl Entry for FindEdge {
+    ghost use Rattle.std.specs.Prelude.{false};
+    ghost use Rattle.qe_payload.specs.Range.{find_edge_rule, find_edge_needs, find_edge_elements, IsFindEdge};
+
+    ghost rule = { find_edge_rule };
+
+    ghost needs = { find_edge_needs };
+
+    ghost laid = { IsFindEdge };
+
+    ghost elements = { find_edge_elements };
+
+    ghost some = { false };
+
+    ghost most = { 4096 };
+
+    fn read(document: &Document) -> Self {
+        // The length is asked for since its clause says that the names are distinct.
+        let _count = document.len();
+        FindEdge {
+            d: array_at(document, "d", 0),
+            s: array_at(document, "s", 0),
+            l: array_at(document, "l", 0),
+        }
+    }
+
+    fn write(&self, alloc: Global) -> Result<Document, NoMemory> {
+        let mut document = Document::new(alloc);
+        put_binary(alloc, &mut document, "d", 0, bytes_of(&self.d))?;
+        put_binary(alloc, &mut document, "s", 0, bytes_of(&self.s))?;
+        put_binary(alloc, &mut document, "l", 0, bytes_of(&self.l))?;
+        Ok(document)
+    }
+}
+
 // The elements of the inner document.
 #[derive(Clone, Copy)]
 struct InnerElements;
@@ -181,51 +218,6 @@ fn check_range(alloc: Global, document: &Document) -> Result<(), Malformed>
     check(alloc, &RangeElements, document)
 }
 
-fn edge_of(document: &Document) -> FindEdge
-    requires { find_edge_refusal document.now ≡ None }
-    ensures { IsFindEdge result document.now }
-{
-    // The length is asked for since its clause says that the names are distinct.
-    let _count = document.len();
-    FindEdge {
-        d: array_at(document, "d", 0),
-        s: array_at(document, "s", 0),
-        l: array_at(document, "l", 0),
-    }
-}
-
-fn edge_in(item: &Value) -> FindEdge
-    requires { IsFindEdgeDocument (fields_of (plain item.now)) }
-    ensures { IsFindEdgeIn result (fields_of (plain item.now)) }
-{
-    match item.as_document() {
-        Some(document) => edge_of(document),
-        None => unreachable!(),
-    }
-}
-
-fn edges_of(alloc: Global, items: &[Value]) -> Result<FindEdges, NoMemory>
-    requires { items_refusal find_edge_rule find_edge_needs 0 (map plain items.now) ≡ None }
-    ensures { IfOk result (λ edges. AreFindEdges edges (map plain items.now)) }
-{
-    let mut edges = FindEdges::new(alloc);
-    for i in 0..items.len() {
-        let edge = edge_in(&items[i]);
-        edges.push(edge)?;
-    }
-    Ok(edges)
-}
-
-fn edges_in(alloc: Global, value: &Value) -> Result<FindEdges, NoMemory>
-    requires { array_rule false 4096 find_edge_rule find_edge_needs (codes "g") (plain value.now) ≡ None }
-    ensures { IfOk result (λ edges. IsFindEdgeList edges (plain value.now)) }
-{
-    match value.as_array() {
-        Some(items) => edges_of(alloc, items.slice()),
-        None => unreachable!(),
-    }
-}
-
 // The value of the edges, which is there.
 fn list_at(document: &Document) -> &Value
     requires { inner_refusal document.now ≡ None }
@@ -261,7 +253,7 @@ fn range_of(alloc: Global, document: &Document) -> Result<FindRange, NoMemory>
     let inner = inner_at(document);
     // The length is asked for since its clause says that the names are distinct.
     let _count = inner.len();
-    let g = edges_in(alloc, list_at(inner))?;
+    let g = list_in(alloc, list_at(inner))?;
     let extra = extra_of(alloc, document)?;
     Ok(FindRange {
         g,

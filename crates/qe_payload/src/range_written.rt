@@ -1,21 +1,22 @@
 //! Find payloads of ranges that are written.
 
-ghost use Rattle.std.specs.Prelude.{◌≡◌, ◌≤◌, ◌≤ℤ◌, ◌++◌, pos, length, map, IfOk};
-ghost use Rattle.qe_bson.specs.Views.{plain};
+ghost use Rattle.std.specs.Prelude.{◌≡◌, ◌≤◌, ◌≤ℤ◌, ◌++◌, pos, length, IfOk, IfErr};
+ghost use Rattle.qe_bson.specs.Writing.{IsWhyRefused};
 ghost use Rattle.qe_payload.specs.Insert.{extra_names, picked};
-ghost use Rattle.qe_payload.specs.Range.{find_edge_tree, inner_elements, head_elements, range_elements, written_range, HasLongFindEdge, AreFindEdges, IsInner, IsRange, IsRangeBlob};
+ghost use Rattle.qe_payload.specs.Range.{inner_elements, head_elements, range_elements, written_range, IsInner, IsRange, IsRangeBlob};
 
+use crate::entries::array_of;
 use crate::insert::carry_all;
-use crate::range::{FIRST, FIRST_OPERATOR, FindEdge, FindRange, SECOND_OPERATOR};
-use crate::written::{blob_of, bytes_of, put, put_binary};
+use crate::range::{FIRST, FIRST_OPERATOR, FindRange, SECOND_OPERATOR};
+use crate::written::{blob_of, put};
 use qe_base::{Bytes, NoMemory};
-use qe_bson::{Document, EncodeFault, Value, Values};
+use qe_bson::{Document, EncodeFault, Value};
 use std::alloc::Global;
 
 /// The blob of a payload, its elements in written order. `read_range` reads the payload again.
 ///
 /// `cm` is 0 or more, `g` has at most 4,096 edges, and `extra` has only the names `sp`, `pn`, `tf`, `mn` and `mx`, in
-/// this order.
+/// this order. It is refused as `encode` refuses the payload's document.
 #[tactic(auto, unfolding(crate::specs::Range::written_range))]
 pub fn write_range(alloc: Global, payload: &FindRange) -> Result<Bytes, EncodeFault>
     requires factor { pos 0 ≤ℤ payload.now.cm }
@@ -23,6 +24,7 @@ pub fn write_range(alloc: Global, payload: &FindRange) -> Result<Bytes, EncodeFa
     requires extra { payload.now.extra ≡ picked extra_names payload.now.extra }
     ensures written { IfOk result (λ blob. blob ≡ written_range payload.now) }
     ensures again { IfOk result (λ blob. IsRangeBlob payload.now blob) }
+    ensures err { IfErr result (IsWhyRefused (range_elements payload.now)) }
 {
     match document_of(alloc, payload) {
         Ok(document) => blob_of(alloc, FIRST, &document),
@@ -76,32 +78,9 @@ fn inner_of(alloc: Global, payload: &FindRange) -> Result<Document, NoMemory>
     ensures elements { IfOk result (λ document. document ≡ inner_elements payload.now) }
     ensures is { IfOk result (λ document. IsInner payload.now.g payload.now.cm document) }
 {
-    let trees = trees_of(alloc, payload.g.slice())?;
+    let edges = array_of(alloc, payload.g.slice())?;
     let mut document = Document::new(alloc);
-    put(alloc, &mut document, "g", Value::Array(trees))?;
+    put(alloc, &mut document, "g", edges)?;
     put(alloc, &mut document, "cm", Value::Int64(payload.cm))?;
     Ok(document)
-}
-
-fn trees_of(alloc: Global, edges: &[FindEdge]) -> Result<Values, NoMemory>
-    ensures trees { IfOk result (λ trees. trees ≡ map find_edge_tree edges.now) }
-    ensures are { IfOk result (λ trees. AreFindEdges edges.now trees) }
-{
-    let mut trees = Values::new(alloc);
-    for i in 0..edges.len() {
-        let tree = edge_value(alloc, &edges[i])?;
-        trees.push(tree)?;
-    }
-    Ok(trees)
-}
-
-fn edge_value(alloc: Global, edge: &FindEdge) -> Result<Value, NoMemory>
-    ensures tree { IfOk result (λ tree. plain tree ≡ find_edge_tree edge.now) }
-    ensures long { IfOk result (λ _. HasLongFindEdge edge.now) }
-{
-    let mut document = Document::new(alloc);
-    put_binary(alloc, &mut document, "d", 0, bytes_of(&edge.d))?;
-    put_binary(alloc, &mut document, "s", 0, bytes_of(&edge.s))?;
-    put_binary(alloc, &mut document, "l", 0, bytes_of(&edge.l))?;
-    Ok(Value::Doc(document))
 }

@@ -1,9 +1,10 @@
 //! Documents and blobs that are written.
 
-ghost use Rattle.std.specs.Prelude.{◌≡◌, ◌∷◌, [], ◌++◌, false, length, OnOk, IfOk};
+ghost use Rattle.std.specs.Prelude.{◌≡◌, ◌∷◌, [], ◌++◌, false, length, OnOk, IfOk, IfErr};
 ghost use Rattle.qe_bson.specs.Names.{is_named};
 ghost use Rattle.qe_bson.specs.Spelling.{document_bytes};
 ghost use Rattle.qe_bson.specs.Views.{plain};
+ghost use Rattle.qe_bson.specs.Writing.{IsWhyRefused};
 ghost use Rattle.qe_bson.specs.declared.value.Plain.TheVariants as p;
 ghost use Rattle.qe_payload.specs.Blobs.{IsBlob};
 
@@ -56,6 +57,7 @@ pub(crate) fn put_binary(
 pub(crate) fn blob_of(alloc: Global, kind: u8, document: &Document) -> Result<Bytes, EncodeFault>
     ensures bytes { IfOk result (λ blob. blob ≡ kind ∷ document_bytes document.now) }
     ensures is { IfOk result (λ blob. IsBlob kind document.now blob) }
+    ensures err { IfErr result (IsWhyRefused document.now) }
 {
     let encoded = encode(alloc, document)?;
     let mut blob = Vec::new(alloc);

@@ -1,34 +1,47 @@
-use Rattle.std.proofs.Common.{rules, arith, w32, w64}
+use Rattle.std.proofs.Common.{refl, rules, arith, w32, w64}
+use Rattle.std.specs.Prelude.{codes}
 use Rattle.std.proofs.lemmas.Int.{to_z-of_z}
-use Rattle.qe_payload.proofs.InsertLemmas.{insert_d, insert_s, insert_p, insert_u, insert_t, insert_v, insert_e, insert_l, insert_k, insert_only}
+use Rattle.qe_payload.specs.Insert.{insert_rule, insert_needs, insert_refusal}
+use Rattle.qe_payload.specs.Shapes.{token, binary, at_least, int32, natural}
+use Rattle.qe_payload.proofs.InsertLemmas.{insert_only}
+use Rattle.qe_payload.proofs.TableLemmas.{held_of}
 use Rattle.qe_payload.proofs.insert.insert_of.Goals as goal
 
 pub bytes_at-requires : goal.bytes_at-requires
-bytes_at-requires c = insert_v c.args.document.now c.requires.passes
+unfolding insert_refusal insert_rule
+bytes_at-requires c = held_of insert_rule insert_needs c.args.document.now (codes "v") (at_least 0 80) c.requires.passes refl (λ v. refl)
 
 pub array_at-requires : goal.array_at-requires
-array_at-requires c = (omega arith, insert_d c.args.document.now c.requires.passes)
+unfolding insert_refusal insert_rule
+array_at-requires c = (omega arith, held_of insert_rule insert_needs c.args.document.now (codes "d") token c.requires.passes refl (λ v. refl))
 
 pub array_at-requires-2 : goal.array_at-requires-2
-array_at-requires-2 c = (omega arith, insert_s c.args.document.now c.requires.passes)
+unfolding insert_refusal insert_rule
+array_at-requires-2 c = (omega arith, held_of insert_rule insert_needs c.args.document.now (codes "s") token c.requires.passes refl (λ v. refl))
 
 pub array_at-requires-3 : goal.array_at-requires-3
-array_at-requires-3 c = (omega arith, insert_p c.args.document.now c.requires.passes)
+unfolding insert_refusal insert_rule
+array_at-requires-3 c = (omega arith, held_of insert_rule insert_needs c.args.document.now (codes "p") (binary 0 48) c.requires.passes refl (λ v. refl))
 
 pub array_at-requires-4 : goal.array_at-requires-4
-array_at-requires-4 c = (omega arith, insert_u c.args.document.now c.requires.passes)
+unfolding insert_refusal insert_rule
+array_at-requires-4 c = (omega arith, held_of insert_rule insert_needs c.args.document.now (codes "u") (binary 4 16) c.requires.passes refl (λ v. refl))
 
 pub int32_at-requires : goal.int32_at-requires
-int32_at-requires c = insert_t c.args.document.now c.requires.passes
+unfolding insert_refusal insert_rule
+int32_at-requires c = held_of insert_rule insert_needs c.args.document.now (codes "t") int32 c.requires.passes refl (λ v. refl)
 
 pub array_at-requires-5 : goal.array_at-requires-5
-array_at-requires-5 c = (omega arith, insert_e c.args.document.now c.requires.passes)
+unfolding insert_refusal insert_rule
+array_at-requires-5 c = (omega arith, held_of insert_rule insert_needs c.args.document.now (codes "e") token c.requires.passes refl (λ v. refl))
 
 pub array_at-requires-6 : goal.array_at-requires-6
-array_at-requires-6 c = (omega arith, insert_l c.args.document.now c.requires.passes)
+unfolding insert_refusal insert_rule
+array_at-requires-6 c = (omega arith, held_of insert_rule insert_needs c.args.document.now (codes "l") token c.requires.passes refl (λ v. refl))
 
 pub natural_at-requires : goal.natural_at-requires
-natural_at-requires c = insert_k c.args.document.now c.requires.passes
+unfolding insert_refusal insert_rule
+natural_at-requires c = held_of insert_rule insert_needs c.args.document.now (codes "k") natural c.requires.passes refl (λ v. refl)
 
 pub returns : goal.returns
 returns c =
