@@ -10,7 +10,6 @@ use Rattle.qe_show.specs.Lines.{lines_of}
 use Rattle.qe_show.proofs.LineLemmas.{shown_is_hex}
 use Rattle.qerun.specs.declared.task.Task.{Task}
 use Rattle.qerun.specs.declared.task.Task.TheVariants.{Replay, Show}
-use Rattle.qerun.specs.Task.{task_of}
 use Rattle.qerun.specs.Top.{IsDueFor, IsDueForTaken, IsDueForTooMuch, input_status, task_status, due_status, Call, IsOutcome, Completes}
 
 -- what was taken to the end is the input
