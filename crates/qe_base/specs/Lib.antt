@@ -1,3 +1,5 @@
+pub mod Answers
+pub mod Bytes
 pub mod Faults
 pub mod Memory
 pub mod Status

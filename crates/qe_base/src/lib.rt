@@ -2,14 +2,14 @@
 //!
 //! A `Source` gives bytes and a `Sink` takes them, in order; both count their faults, and a call is refused only
 //! where that count rose. `take_all` and `put_all` move whole texts. `Listing`, `Bytes` and `Text` are what
-//! contracts see as plain lists. Read: outside, transfer, memory, standard, listing, text, pieces, status.
+//! contracts see as plain lists. Read: outside, transfer, memory, standard, listing, text, arrays, status.
 #![tactic(auto)]
 
+mod arrays;
 mod failure;
 mod listing;
 mod memory;
 mod outside;
-mod pieces;
 mod standard;
 mod status;
 #[cfg(test)]
@@ -17,11 +17,11 @@ mod tests;
 mod text;
 mod transfer;
 
+pub use arrays::{array_at, bytes_of, write_at};
 pub use failure::{Failed, NoMemory};
 pub use listing::{Bytes, Duplicate, Ids, Listing, Numbers, Tags, Texts};
 pub use memory::{MemorySink, MemorySource};
 pub use outside::{FreeGate, Gate, Sink, Source};
-pub use pieces::array_at;
 pub use standard::{StdSink, StdSource};
 pub use status::Status;
 pub use text::Text;
