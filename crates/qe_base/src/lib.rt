@@ -2,7 +2,11 @@
 //!
 //! A `Source` gives bytes and a `Sink` takes them, in order; both count their faults, and a call is refused only
 //! where that count rose. `take_all` and `put_all` move whole texts. `Listing`, `Bytes` and `Text` are what
-//! contracts see as plain lists. Read: outside, transfer, memory, standard, listing, text, arrays, status.
+//! contracts see as plain lists. Read: outside, transfer, memory, standard, listing, text, arrays, steps, status.
+//!
+//!     let mut sink = MemorySink::new(alloc, 3)?;
+//!     put_all(&mut sink, take_all(alloc, &mut source)?.slice())?;
+//!     sink.held(); // the bytes that the source had left
 #![tactic(auto)]
 
 mod arrays;
@@ -12,8 +16,7 @@ mod memory;
 mod outside;
 mod standard;
 mod status;
-#[cfg(test)]
-mod tests;
+mod steps;
 mod text;
 mod transfer;
 
@@ -24,5 +27,6 @@ pub use memory::{MemorySink, MemorySource};
 pub use outside::{FreeGate, Gate, Sink, Source};
 pub use standard::{StdSink, StdSource};
 pub use status::Status;
+pub use steps::Steps;
 pub use text::Text;
 pub use transfer::{TakeFault, put_all, take_all};

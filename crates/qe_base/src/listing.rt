@@ -1,3 +1,5 @@
+//! Growing lists, which contracts see as plain lists.
+
 ghost use Rattle.std.specs.Prelude.{◌≡◌, [], ◌∷◌, ◌++◌, length, IfOk, OnOk, OnErr, IsTrue, ◌↔◌};
 
 use crate::{NoMemory, Text};

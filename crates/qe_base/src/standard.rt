@@ -1,3 +1,5 @@
+//! The source and the sink of a program: its standard streams.
+
 ghost use Rattle.std.specs.Prelude.{◌≡◌};
 
 use crate::{Failed, Sink, Source};

@@ -1,3 +1,5 @@
+//! Texts of UTF-8.
+
 ghost use Rattle.std.specs.Prelude.{◌≡◌, true, IfOk};
 ghost use Rattle.std.specs.Str.{is_utf8};
 
@@ -43,7 +45,6 @@ impl Text {
 
 impl Duplicate for Text {
     fn copy(&self) -> Result<Self, NoMemory> {
-        let other = Text::of(self.alloc, self.text.as_str())?;
-        Ok(other)
+        Text::of(self.alloc, self.text.as_str())
     }
 }

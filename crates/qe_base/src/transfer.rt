@@ -1,3 +1,5 @@
+//! Whole texts, from a source and into a sink.
+
 ghost use Rattle.std.specs.Prelude.{◌≤◌, IfOk, IfErr, OnOk, OnErr};
 ghost use Rattle.std.specs.Io.KnownBytes.{Appends};
 ghost use Rattle.qe_base.specs.Faults.{HasCause};
@@ -5,18 +7,25 @@ ghost use Rattle.qe_base.specs.Transfer.{TakesAll, TakesSome, AppendsFront, IsWh
 
 use crate::{Bytes, Failed, NoMemory, Sink, Source};
 use std::alloc::Global;
+use thiserror::Error;
 
 /// The greatest number of bytes that is taken from a source.
 const LIMIT: usize = 1 << 28;
 
+/// How many bytes are asked for at once.
+const PIECE: usize = 4096;
+
 /// Why a source wasn't taken to its end.
-#[derive(Debug, Drop)]
+#[derive(Debug, Drop, Error)]
 pub enum TakeFault {
     /// The source failed.
+    #[error("the input can't be read")]
     ReadFault,
     /// So many bytes were taken, and that is more than 2^28.
+    #[error("the input is too long: {taken} bytes were read, and at most {LIMIT} are allowed")]
     TooLong { taken: u64 },
     /// There was no memory.
+    #[error("there is not enough memory")]
     NoMemory,
 }
 
@@ -50,7 +59,7 @@ pub fn take_all<S: Source>(alloc: Global, source: &mut S) -> Result<Bytes, TakeF
     ensures later { S.faults source.old ≤ S.faults source.new }
 {
     let mut bytes = Bytes::new(alloc);
-    let mut piece = [0u8; 4096];
+    let mut piece = [0u8; PIECE];
     while bytes.len() <= LIMIT {
         let count = source.read(&mut piece)?;
         if count == 0 {
