@@ -1,6 +1,6 @@
 use crate::work::{Outcome, last_block};
 use qe_base::{Bytes, NoMemory, Text};
-use qe_bson::{Document, Value, decode, encode};
+use qe_document::{Document, Value, decode, encode};
 use std::alloc::Global;
 
 /// A document of 1,000 fields of mixed types.

@@ -2,7 +2,7 @@ use crate::documents::{decoded, encoded, mixed, nested};
 use hex::FromHex;
 use qe_aes::Aes256;
 use qe_base::NoMemory;
-use qe_bson::Document;
+use qe_document::Document;
 use qe_seal::{hmac, seal};
 use std::alloc::Global;
 

@@ -9,8 +9,8 @@ use Rattle.std.specs.Map.{keys_of}
 use Rattle.serde_json.proofs.Views.{Entry}
 use Rattle.serde_json.specs.View.{view, items_view, members_view}
 use Rattle.serde_json.specs.declared.value.Value.{Value}
-use Rattle.qe_bson.specs.Names.{is_named, Distinct}
-use Rattle.qe_bson.specs.declared.value.Plain.{Plain}
+use Rattle.qe_document.specs.Names.{is_named, Distinct}
+use Rattle.qe_document.specs.declared.value.Plain.{Plain}
 use Rattle.qe_bson.specs.declared.extended_json.fault.JsonFault.{JsonFault}
 use Rattle.qe_bson.specs.declared.extended_json.fault.JsonFault.TheVariants.{BadNumber, BadForm, TooDeep, Unprintable, NoMemory}
 use Rattle.qe_bson.specs.JsonAnswers.{Fails}

@@ -5,11 +5,11 @@ use Rattle.std.proofs.lemmas.List.{take_more}
 use Rattle.std.specs.Prelude.{◌&&◌, nat_lt, slice_get, IfOk, OnOk}
 use Rattle.serde_json.specs.View.{view}
 use Rattle.serde_json.specs.declared.value.Value.{Value as Json}
-use Rattle.qe_bson.specs.Views.{plain}
-use Rattle.qe_bson.specs.declared.value.Plain.{Plain, the_lemmas}
-use Rattle.qe_bson.specs.declared.value.Plain.TheVariants as p
-use Rattle.qe_bson.specs.declared.value.Value.{Value}
-use Rattle.qe_bson.specs.declared.value.Value.TheVariants as v
+use Rattle.qe_document.specs.Views.{plain}
+use Rattle.qe_document.specs.declared.value.Plain.{Plain, the_lemmas}
+use Rattle.qe_document.specs.declared.value.Plain.TheVariants as p
+use Rattle.qe_document.specs.declared.value.Value.{Value}
+use Rattle.qe_document.specs.declared.value.Value.TheVariants as v
 use Rattle.qe_bson.specs.declared.extended_json.fault.JsonFault.{JsonFault}
 use Rattle.qe_bson.specs.JsonAnswers.{Gives}
 use Rattle.qe_bson.specs.JsonReading.{value_at}

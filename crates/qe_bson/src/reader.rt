@@ -1,14 +1,12 @@
 //! Documents that come in pieces.
 
 ghost use Rattle.std.specs.Prelude.{◌≡◌, ℕ, List, [], ◌++◌, None, IsTrue, ◌↔◌};
-ghost use Rattle.qe_bson.specs.declared.fault.BsonKind.TheVariants.{Short};
-ghost use Rattle.qe_bson.specs.declared.fault.BsonFault.TheVariants.{At};
-ghost use Rattle.qe_bson.specs.Reading.{document_at};
+ghost use Rattle.qe_document.specs.declared.fault.BsonKind.TheVariants.{Short};
+ghost use Rattle.qe_document.specs.declared.fault.BsonFault.TheVariants.{At};
+ghost use Rattle.qe_document.specs.Reading.{document_at};
 ghost use Rattle.qe_bson.specs.Stream.{IsShort, Takes, Feeds, Finishes};
 
-use crate::fault::{BsonFault, BsonKind};
-use crate::reading::decode;
-use crate::value::Document;
+use qe_document::{BsonFault, BsonKind, Document, decode};
 use std::alloc::Global;
 use std::marker::Model;
 
@@ -22,11 +20,11 @@ pub struct Reader {
 
 impl Model for Reader {
     ghost use Rattle.std.specs.Prelude.{ℕ, List, Option};
-    ghost use Rattle.qe_bson.specs.declared.fault.BsonFault.{BsonFault};
+    ghost use Rattle.qe_document.specs.declared.fault.BsonFault.{BsonFault};
 
     ghost Value = { List ℕ × Option BsonFault };
 
-    ghost use Rattle.qe_bson.specs.contracts.fault.BsonFault as e;
+    ghost use Rattle.qe_document.specs.contracts.fault.BsonFault as e;
     ghost use Rattle.std.specs.Coded.{codes};
 
     ghost coded = { Prim.hlevel (codes, e.the_row.coded) };

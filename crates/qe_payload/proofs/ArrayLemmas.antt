@@ -2,10 +2,10 @@
 use Rattle.std.proofs.Common.{◌≡◌, ℕ, ◌+◌, ◌<◌, ◌≤◌, List, ◌∷◌, length, get_or, drop, map, ap, sym, ◌∙◌, arith, Option, None}
 use Rattle.std.specs.Prelude.{decimal}
 use Rattle.std.proofs.lemmas.List.{drop_more, drop_all, get_or-map, length-map}
-use Rattle.qe_bson.specs.declared.value.Value.{Value}
-use Rattle.qe_bson.specs.declared.value.Value.TheVariants as v
-use Rattle.qe_bson.specs.Views.{plain, document_in, array_in}
-use Rattle.qe_bson.proofs.PlainLemmas as o
+use Rattle.qe_document.specs.declared.value.Value.{Value}
+use Rattle.qe_document.specs.declared.value.Value.TheVariants as v
+use Rattle.qe_document.specs.Views.{plain, document_in, array_in}
+use Rattle.qe_document.proofs.PlainLemmas as o
 use Rattle.qe_payload.specs.Refusal.{Refusal, first_of_two}
 use Rattle.qe_payload.specs.Elements.{Rule, Needs}
 use Rattle.qe_payload.specs.Arrays.{fields_open, fields_of, items_open, items_of, document_rule, items_refusal}

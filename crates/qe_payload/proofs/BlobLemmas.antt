@@ -1,9 +1,9 @@
 -- Blobs and their documents.
 use Rattle.std.proofs.Common.{◌≡◌, ℕ, ◌-◌, List, [], ◌∷◌, length, true, refl, ap, sym, ◌∙◌, Option, None, Some, Result, Ok, Err, eq-eqb, ◌==◌}
 use Rattle.std.proofs.lemmas.Bool.{cond-true}
-use Rattle.qe_bson.specs.declared.fault.BsonFault.{BsonFault}
-use Rattle.qe_bson.specs.Reading.{document_at}
-use Rattle.qe_bson.proofs.DocumentLemmas.{begins_again}
+use Rattle.qe_document.specs.declared.fault.BsonFault.{BsonFault}
+use Rattle.qe_document.specs.Reading.{document_at}
+use Rattle.qe_document.proofs.DocumentLemmas.{begins_again}
 use Rattle.qe_payload.specs.declared.malformed.Malformed.{Malformed}
 use Rattle.qe_payload.specs.declared.malformed.Malformed.TheVariants as m
 use Rattle.qe_payload.specs.declared.malformed.Kind.TheVariants.{BlobSubtype, Trailing}

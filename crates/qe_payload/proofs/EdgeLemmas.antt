@@ -1,7 +1,7 @@
 -- Edges of an insert payload and edges that are looked for: not refused exactly where they are laid out.
 use Rattle.std.proofs.Common.{◌≡◌, List, length, refl, ap, None, Some}
 use Rattle.std.specs.Prelude.{Option}
-use Rattle.qe_bson.specs.declared.value.Plain.{Plain}
+use Rattle.qe_document.specs.declared.value.Plain.{Plain}
 use Rattle.qe_payload.specs.declared.insert.EdgeTokens.{EdgeTokens}
 use Rattle.qe_payload.specs.declared.range.FindEdge.{FindEdge}
 use Rattle.qe_payload.specs.Elements.{Element, IsFree}

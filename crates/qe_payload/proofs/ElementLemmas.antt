@@ -3,8 +3,8 @@ use Rattle.std.proofs.Common.{◌≡◌, ℕ, Bool, true, false, ◌||◌, List,
 use Rattle.std.specs.Prelude.{bytes_eq}
 use Rattle.std.proofs.lemmas.Bool.{cases_Bool, cond-true, cond-false}
 use Rattle.std.proofs.lemmas.Slice.Eq.{bytes_eq-Decides}
-use Rattle.qe_bson.specs.Names.{value_named, is_named, Distinct}
-use Rattle.qe_bson.specs.declared.value.Plain.{Plain}
+use Rattle.qe_document.specs.Names.{value_named, is_named, Distinct}
+use Rattle.qe_document.specs.declared.value.Plain.{Plain}
 use Rattle.qe_payload.specs.declared.malformed.Kind.{Kind}
 use Rattle.qe_payload.specs.Refusal.{Refusal, here, first_of_two, first_of}
 use Rattle.qe_payload.specs.Shapes.{Shape}

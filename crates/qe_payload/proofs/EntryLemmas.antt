@@ -3,11 +3,11 @@ use Rattle.std.proofs.Common.{◌≡◌, ℕ, zero, suc, ◌+◌, ◌<◌, ◌�
 use Rattle.std.specs.Prelude.{decimal, IfOk}
 use Rattle.std.proofs.lemmas.Bool.{ltb-false, eqb-false, le-ltb, ne_eqb}
 use Rattle.std.proofs.lemmas.List.{take_more, get_or-map, length-map}
-use Rattle.qe_bson.specs.declared.value.Plain.{Plain}
-use Rattle.qe_bson.specs.declared.value.Plain.TheVariants.{Array}
-use Rattle.qe_bson.specs.declared.value.Value.{Value}
-use Rattle.qe_bson.specs.Views.{plain}
-use Rattle.qe_bson.proofs.PlainLemmas.{out-Array}
+use Rattle.qe_document.specs.declared.value.Plain.{Plain}
+use Rattle.qe_document.specs.declared.value.Plain.TheVariants.{Array}
+use Rattle.qe_document.specs.declared.value.Value.{Value}
+use Rattle.qe_document.specs.Views.{plain}
+use Rattle.qe_document.proofs.PlainLemmas.{out-Array}
 use Rattle.qe_payload.specs.declared.malformed.Kind.TheVariants.{WrongType, NoEdges, TooManyEdges}
 use Rattle.qe_payload.specs.Refusal.{Refusal, here, inside, first_of_two}
 use Rattle.qe_payload.specs.Elements.{Element, Rule, Needs, document_refusal, IsFree}

@@ -1,8 +1,8 @@
 -- Insert payloads: nothing is refused exactly where the elements are a payload's.
 use Rattle.std.proofs.Common.{◌≡◌, ℕ, List, refl, sym, ◌∙◌, subst, Option, None, Some, true}
 use Rattle.std.specs.Prelude.{codes}
-use Rattle.qe_bson.specs.Names.{value_named}
-use Rattle.qe_bson.specs.declared.value.Plain.{Plain}
+use Rattle.qe_document.specs.Names.{value_named}
+use Rattle.qe_document.specs.declared.value.Plain.{Plain}
 use Rattle.qe_payload.specs.declared.insert.EdgeTokens.{EdgeTokens}
 use Rattle.qe_payload.specs.declared.insert.InsertPayload.{InsertPayload}
 use Rattle.qe_payload.specs.Elements.{Element, HasOnly, one_of}

@@ -2,8 +2,8 @@
 use Rattle.std.proofs.Common.{◌≡◌, ℕ, ◌≤◌, ◌≤ℤ◌, pos, List, [], ◌∷◌, ◌++◌, length, refl, sym, subst, ◌∙◌, Option, None, Some, true, false, Result, Ok, Err}
 use Rattle.std.specs.Prelude.{codes, bytes_eq, OnOk}
 use Rattle.std.proofs.lemmas.Bool.{or_parts}
-use Rattle.qe_bson.specs.Names.{value_named, is_named, Distinct}
-use Rattle.qe_bson.specs.declared.value.Plain.{Plain}
+use Rattle.qe_document.specs.Names.{value_named, is_named, Distinct}
+use Rattle.qe_document.specs.declared.value.Plain.{Plain}
 use Rattle.qe_payload.specs.declared.insert.InsertPayload.{InsertPayload}
 use Rattle.qe_payload.specs.Elements.{Element, HasOnly, one_of}
 use Rattle.qe_payload.specs.Insert.{insert_names, extra_names, picked_one, picked, edges_value, insert_elements}

@@ -3,9 +3,9 @@ use Rattle.std.proofs.Common.{◌≡◌, ℕ, ℤ, pos, Bool, true, false, List,
 use Rattle.std.specs.Prelude.{codes}
 use Rattle.std.specs.Ordering.{int_eq}
 use Rattle.std.proofs.lemmas.Bool.Decides.{Decides-int_eq}
-use Rattle.qe_bson.specs.Names.{value_named}
-use Rattle.qe_bson.specs.declared.value.Plain.{Plain}
-use Rattle.qe_bson.specs.declared.value.Plain.TheVariants.{Int32}
+use Rattle.qe_document.specs.Names.{value_named}
+use Rattle.qe_document.specs.declared.value.Plain.{Plain}
+use Rattle.qe_document.specs.declared.value.Plain.TheVariants.{Int32}
 use Rattle.qe_payload.specs.declared.range.FindEdge.{FindEdge}
 use Rattle.qe_payload.specs.declared.range.FindRange.{FindRange}
 use Rattle.qe_payload.specs.declared.malformed.Kind.TheVariants.{WrongType, ProfileOperator}

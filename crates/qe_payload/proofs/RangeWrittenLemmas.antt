@@ -1,9 +1,9 @@
 -- Find payloads of ranges in written order.
 use Rattle.std.proofs.Common.{◌≡◌, ℕ, pos, ◌≤ℤ◌, List, refl, ap, sym, subst, Some, false}
 use Rattle.std.specs.Prelude.{codes}
-use Rattle.qe_bson.specs.Names.{Distinct, is_named}
-use Rattle.qe_bson.specs.declared.value.Plain.TheVariants.{Array, Doc}
-use Rattle.qe_bson.proofs.PlainLemmas.{out-Doc}
+use Rattle.qe_document.specs.Names.{Distinct, is_named}
+use Rattle.qe_document.specs.declared.value.Plain.TheVariants.{Array, Doc}
+use Rattle.qe_document.proofs.PlainLemmas.{out-Doc}
 use Rattle.qe_payload.specs.declared.range.FindRange.{FindRange}
 use Rattle.qe_payload.specs.Elements.{HasOnly, one_of}
 use Rattle.qe_payload.specs.Arrays.{fields_open, fields_of, trees}

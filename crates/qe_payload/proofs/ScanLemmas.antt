@@ -2,7 +2,7 @@
 use Rattle.std.proofs.Common.{◌≡◌, ℕ, zero, suc, ◌+◌, ◌<◌, ◌≤◌, List, [], ◌∷◌, length, drop, ap, sym, ◌∙◌, arith, add-one, Option, None, Some, Result, Ok, Err}
 use Rattle.std.proofs.lemmas.List.{drop_all}
 use Rattle.std.specs.Prelude.{slice_get, option_map, IsErr}
-use Rattle.qe_bson.specs.declared.value.Plain.{Plain}
+use Rattle.qe_document.specs.declared.value.Plain.{Plain}
 use Rattle.qe_payload.specs.declared.malformed.Malformed.{Malformed}
 use Rattle.qe_payload.specs.declared.malformed.Malformed.TheVariants as m
 use Rattle.qe_payload.specs.Refusal.{Refusal, first_of_two, first_of, IsRefusal, Checks}

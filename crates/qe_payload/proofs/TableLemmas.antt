@@ -3,9 +3,9 @@ use Rattle.std.proofs.Common.{◌≡◌, ℕ, ℤ, pos, negsuc, ◌≤◌, ◌�
 use Rattle.std.specs.Prelude.{bytes_eq}
 use Rattle.std.proofs.lemmas.Bool.{le-ltb}
 use Rattle.std.proofs.lemmas.Slice.Eq.{bytes_eq-Decides}
-use Rattle.qe_bson.specs.Names.{value_named, is_named, Distinct}
-use Rattle.qe_bson.specs.declared.value.Plain.{Plain}
-use Rattle.qe_bson.specs.declared.value.Plain.TheVariants.{Binary, Int32, Int64}
+use Rattle.qe_document.specs.Names.{value_named, is_named, Distinct}
+use Rattle.qe_document.specs.declared.value.Plain.{Plain}
+use Rattle.qe_document.specs.declared.value.Plain.TheVariants.{Binary, Int32, Int64}
 use Rattle.qe_payload.specs.Refusal.{here, first_of, first_of_two}
 use Rattle.qe_payload.specs.Shapes.{Shape, binary, at_least, int32, natural, sign_kind}
 use Rattle.qe_payload.specs.Elements.{Element, Rule, Table, Needs, by_table, missing, IsFree, HasBinary, HasNatural, one_of, HasOnly, Holds}

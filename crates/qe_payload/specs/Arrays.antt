@@ -1,8 +1,8 @@
 -- Documents inside documents, and arrays of documents, each under a table.
 use Rattle.std.specs.Prelude.{◌≡◌, ℕ, ◌+◌, ◌≤◌, Bool, true, false, ◌&&◌, List, [], ◌∷◌, length, map, decimal, nat_lt, ◌==◌, if◌then◌else◌, Option, None, Some}
-use Rattle.qe_bson.specs.declared.value.Plain.{Plain, out-Plain}
-use Rattle.qe_bson.specs.declared.value.Plain.TheOpen.{Plain-F}
-use Rattle.qe_bson.specs.declared.value.Plain.TheVariants.{Doc}
+use Rattle.qe_document.specs.declared.value.Plain.{Plain, out-Plain}
+use Rattle.qe_document.specs.declared.value.Plain.TheOpen.{Plain-F}
+use Rattle.qe_document.specs.declared.value.Plain.TheVariants.{Doc}
 use Rattle.qe_payload.specs.declared.malformed.Kind.{Kind}
 use Rattle.qe_payload.specs.declared.malformed.Kind.TheVariants.{WrongType, NoEdges, TooManyEdges}
 use Rattle.qe_payload.specs.Refusal.{Refusal, here, inside, first_of_two}

@@ -1,8 +1,8 @@
 -- Blobs: one byte for the kind, and one document.
 use Rattle.std.specs.Prelude.{◌≡◌, ℕ, ◌-◌, List, [], ◌∷◌, length, codes, ◌==◌, if◌then◌else◌, Option, Some, Result, Ok, Err}
-use Rattle.qe_bson.specs.declared.fault.BsonFault.{BsonFault}
-use Rattle.qe_bson.specs.Reading.{document_at}
-use Rattle.qe_bson.specs.Spelling.{Begins}
+use Rattle.qe_document.specs.declared.fault.BsonFault.{BsonFault}
+use Rattle.qe_document.specs.Reading.{document_at}
+use Rattle.qe_document.specs.Spelling.{Begins}
 use Rattle.qe_payload.specs.declared.malformed.Kind.TheVariants.{Empty, BlobSubtype, Bson, Trailing}
 use Rattle.qe_payload.specs.Refusal.{Refusal, here}
 use Rattle.qe_payload.specs.Elements.{Element}

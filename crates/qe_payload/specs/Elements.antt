@@ -1,9 +1,9 @@
 -- Documents under a table: each element by its name and value, and the names that have to be there.
 use Rattle.std.specs.Prelude.{◌≡◌, ℕ, ℤ, pos, ◌≤ℤ◌, Bool, true, List, [], ◌∷◌, length, bytes_eq, Option, None, Some}
 use Rattle.std.specs.List.{list_any}
-use Rattle.qe_bson.specs.Names.{value_named}
-use Rattle.qe_bson.specs.declared.value.Plain.{Plain}
-use Rattle.qe_bson.specs.declared.value.Plain.TheVariants.{Binary, Int64}
+use Rattle.qe_document.specs.Names.{value_named}
+use Rattle.qe_document.specs.declared.value.Plain.{Plain}
+use Rattle.qe_document.specs.declared.value.Plain.TheVariants.{Binary, Int64}
 use Rattle.qe_payload.specs.declared.malformed.Kind.{Kind}
 use Rattle.qe_payload.specs.declared.malformed.Kind.TheVariants.{Unknown}
 use Rattle.qe_payload.specs.Refusal.{Refusal, here, first_of_two, first_of}

@@ -1,8 +1,8 @@
 -- FindEqualityPayloadV2 of libmongocrypt: tokens of an item, and the greatest contention factor.
 use Rattle.std.specs.Prelude.{◌≡◌, ℕ, List, [], ◌∷◌, length, codes, Option}
-use Rattle.qe_bson.specs.Names.{Distinct}
-use Rattle.qe_bson.specs.Spelling.{document_bytes}
-use Rattle.qe_bson.specs.declared.value.Plain.TheVariants.{Binary, Int64}
+use Rattle.qe_document.specs.Names.{Distinct}
+use Rattle.qe_document.specs.Spelling.{document_bytes}
+use Rattle.qe_document.specs.declared.value.Plain.TheVariants.{Binary, Int64}
 use Rattle.qe_payload.specs.declared.equal.FindEqual.{FindEqual}
 use Rattle.qe_payload.specs.declared.malformed.Kind.TheVariants.{Missing}
 use Rattle.qe_payload.specs.Refusal.{Refusal}

@@ -1,9 +1,9 @@
 -- InsertUpdatePayloadV2 of libmongocrypt: tokens of a value, the sealed value, and for a range the tokens of its edges.
 use Rattle.std.specs.Prelude.{◌≡◌, ℕ, ◌≤◌, true, false, List, [], ◌∷◌, ◌++◌, length, flat_map, codes, bytes_eq, if◌then◌else◌, Option, None, Some}
-use Rattle.qe_bson.specs.Names.{Distinct, is_named, value_named}
-use Rattle.qe_bson.specs.Spelling.{document_bytes}
-use Rattle.qe_bson.specs.declared.value.Plain.{Plain}
-use Rattle.qe_bson.specs.declared.value.Plain.TheVariants.{Array, Binary, Int32, Int64}
+use Rattle.qe_document.specs.Names.{Distinct, is_named, value_named}
+use Rattle.qe_document.specs.Spelling.{document_bytes}
+use Rattle.qe_document.specs.declared.value.Plain.{Plain}
+use Rattle.qe_document.specs.declared.value.Plain.TheVariants.{Array, Binary, Int32, Int64}
 use Rattle.qe_payload.specs.declared.insert.EdgeTokens.{EdgeTokens}
 use Rattle.qe_payload.specs.declared.insert.InsertPayload.{InsertPayload}
 use Rattle.qe_payload.specs.declared.malformed.Kind.TheVariants.{Missing}

@@ -1,10 +1,10 @@
 -- FindRangePayloadV2 of libmongocrypt: tokens of the edges of a range, the greatest contention factor, and the range's two operators.
 use Rattle.std.specs.Prelude.{◌≡◌, ℕ, ℤ, pos, false, List, [], ◌∷◌, ◌++◌, codes, bytes_eq, if◌then◌else◌, Option, None, Some}
 use Rattle.std.specs.Ordering.{int_eq}
-use Rattle.qe_bson.specs.Names.{Distinct, value_named}
-use Rattle.qe_bson.specs.Spelling.{document_bytes}
-use Rattle.qe_bson.specs.declared.value.Plain.{Plain}
-use Rattle.qe_bson.specs.declared.value.Plain.TheVariants.{Array, Binary, Doc, Int32, Int64}
+use Rattle.qe_document.specs.Names.{Distinct, value_named}
+use Rattle.qe_document.specs.Spelling.{document_bytes}
+use Rattle.qe_document.specs.declared.value.Plain.{Plain}
+use Rattle.qe_document.specs.declared.value.Plain.TheVariants.{Array, Binary, Doc, Int32, Int64}
 use Rattle.qe_payload.specs.declared.range.FindEdge.{FindEdge}
 use Rattle.qe_payload.specs.declared.range.FindRange.{FindRange}
 use Rattle.qe_payload.specs.declared.malformed.Kind.TheVariants.{Missing, ProfileOperator, WrongType}

@@ -1,7 +1,7 @@
 -- What is wrong with a value in its place; None: nothing.
 use Rattle.std.specs.Prelude.{ℕ, ℤ, pos, negsuc, length, ◌==◌, nat_lt, if◌then◌else◌, Option, None, Some}
-use Rattle.qe_bson.specs.declared.value.Plain.{Plain}
-use Rattle.qe_bson.specs.declared.value.Plain.TheVariants.{Binary, Int32, Int64}
+use Rattle.qe_document.specs.declared.value.Plain.{Plain}
+use Rattle.qe_document.specs.declared.value.Plain.TheVariants.{Binary, Int32, Int64}
 use Rattle.qe_payload.specs.declared.malformed.Kind.{Kind}
 use Rattle.qe_payload.specs.declared.malformed.Kind.TheVariants.{WrongType, WrongLength, Negative}
 

@@ -1,14 +1,14 @@
 //! The check of documents inside documents, and of arrays of documents.
 
 ghost use Rattle.std.specs.Prelude.{◌≡◌, decimal, map, length, Option};
-ghost use Rattle.qe_bson.specs.Views.{plain};
+ghost use Rattle.qe_document.specs.Views.{plain};
 ghost use Rattle.qe_payload.specs.Refusal.{Refusal, Checks, inside};
 ghost use Rattle.qe_payload.specs.Arrays.{document_rule, items_refusal, count_kind, array_rule};
 
 use crate::layout::{Layout, check};
 use crate::malformed::{Kind, Malformed, check_here, refused_inside};
 use itoa::Buffer;
-use qe_bson::Value;
+use qe_document::Value;
 use std::alloc::Global;
 
 /// How many items an array may have.

@@ -6,7 +6,7 @@ ghost use Rattle.qe_payload.specs.Elements.{Element};
 ghost use Rattle.qe_payload.specs.Blobs.{blob_refusal, IsBlob};
 
 use crate::malformed::{Kind, Malformed, refused};
-use qe_bson::{BsonFault, Document, decode};
+use qe_document::{BsonFault, Document, decode};
 use std::alloc::Global;
 
 /// The path of a whole blob.

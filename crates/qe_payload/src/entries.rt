@@ -1,13 +1,13 @@
 //! Arrays of documents, read as lists of entries and written from them.
 
 ghost use Rattle.std.specs.Prelude.{◌≡◌, ◌≤◌, ℕ, Bool, List, length, map, None, IfOk};
-ghost use Rattle.qe_bson.specs.Views.{plain};
-ghost use Rattle.qe_bson.specs.declared.value.Plain.TheVariants as p;
+ghost use Rattle.qe_document.specs.Views.{plain};
+ghost use Rattle.qe_document.specs.declared.value.Plain.TheVariants as p;
 ghost use Rattle.qe_payload.specs.Elements.{Element, Rule, Needs, IsFree};
 ghost use Rattle.qe_payload.specs.Arrays.{fields_of, items_refusal, array_rule, IsDocument, AreEach, least, IsList, trees};
 
 use qe_base::{Listing, NoMemory};
-use qe_bson::{Document, Value, Values};
+use qe_document::{Document, Value, Values};
 use std::alloc::Global;
 
 /// What a document of an array is read as.

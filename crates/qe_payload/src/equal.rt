@@ -1,8 +1,8 @@
 //! Find payloads of equality: FindEqualityPayloadV2.
 
 ghost use Rattle.std.specs.Prelude.{◌≡◌, ◌≤ℤ◌, pos, IfOk, IfErr, None};
-ghost use Rattle.qe_bson.specs.Names.{Distinct};
-ghost use Rattle.qe_bson.specs.Writing.{IsWhyRefused};
+ghost use Rattle.qe_document.specs.Names.{Distinct};
+ghost use Rattle.qe_document.specs.Writing.{IsWhyRefused};
 ghost use Rattle.qe_payload.specs.Refusal.{Checks};
 ghost use Rattle.qe_payload.specs.Equal.{equal_rule, equal_needs, equal_refusal, equal_blob_refusal, IsEqual, IsEqualBlob, equal_elements, written_equal, HasLongTokens};
 ghost use Rattle.qe_payload.specs.declared.equal.FindEqual.{FindEqual};
@@ -14,7 +14,7 @@ use crate::malformed::{Kind, Malformed, check_here};
 use crate::shape::{natural, token};
 use crate::written::{blob_of, bytes_of, put, put_binary};
 use qe_base::{Bytes, NoMemory};
-use qe_bson::{Document, EncodeFault, Value};
+use qe_document::{Document, EncodeFault, Value};
 use std::alloc::Global;
 
 /// The first byte of a find payload of equality.

@@ -1,13 +1,13 @@
 //! Elements that are there, of the shape that they need.
 
 ghost use Rattle.std.specs.Prelude.{◌≡◌, ◌≤◌, length, Some, IfOk};
-ghost use Rattle.qe_bson.specs.Names.{value_named};
-ghost use Rattle.qe_bson.specs.declared.value.Plain.TheVariants as p;
+ghost use Rattle.qe_document.specs.Names.{value_named};
+ghost use Rattle.qe_document.specs.declared.value.Plain.TheVariants as p;
 ghost use Rattle.qe_payload.specs.Elements.{Holds, HasBinary, HasNatural};
 ghost use Rattle.qe_payload.specs.Shapes as shapes;
 
 use qe_base::{Bytes, Duplicate, NoMemory};
-use qe_bson::{Document, Value};
+use qe_document::{Document, Value};
 use std::alloc::Global;
 
 /// The bytes of an element that is a binary of so many.

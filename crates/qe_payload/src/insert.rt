@@ -1,8 +1,8 @@
 //! Insert payloads: InsertUpdatePayloadV2.
 
 ghost use Rattle.std.specs.Prelude.{◌≡◌, ◌++◌, ◌∷◌, [], codes, false, IfOk, IfErr, OnOk, None};
-ghost use Rattle.qe_bson.specs.Names.{Distinct, is_named, value_named};
-ghost use Rattle.qe_bson.specs.Views.{plain};
+ghost use Rattle.qe_document.specs.Names.{Distinct, is_named, value_named};
+ghost use Rattle.qe_document.specs.Views.{plain};
 ghost use Rattle.qe_payload.specs.Refusal.{Checks};
 ghost use Rattle.qe_payload.specs.Elements.{kind_at};
 ghost use Rattle.qe_payload.specs.Insert.{insert_table, insert_refusal, insert_blob_refusal, extra_names, picked_one, picked, AreNew, AreOptionalEdges, IsInsert, IsInsertBlob};
@@ -17,7 +17,7 @@ use crate::malformed::{Kind, Malformed, check_here};
 use crate::shape::{at_least, binary, int32, natural, token};
 use crate::written::{bytes_of, put, put_binary};
 use qe_base::{Bytes, Duplicate, Listing, NoMemory};
-use qe_bson::{Document, Value};
+use qe_document::{Document, Value};
 use std::alloc::Global;
 
 /// The first byte of an insert payload.

@@ -3,7 +3,7 @@ ghost use Rattle.std.specs.Prelude.{◌≡◌, ◌≤◌, pos, length, IfOk};
 use crate::written::put;
 use crate::{EdgeList, EdgeTokens, InsertPayload, Kind, Malformed, read_insert, write_insert};
 use qe_base::Bytes;
-use qe_bson::{BsonFault, BsonKind, Document, Value};
+use qe_document::{BsonFault, BsonKind, Document, Value};
 use std::alloc::Global;
 use std::process::Abort;
 use std::test::Fail;

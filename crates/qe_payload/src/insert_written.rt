@@ -1,8 +1,8 @@
 //! Insert payloads that are written.
 
 ghost use Rattle.std.specs.Prelude.{◌≡◌, ◌≤◌, ◌≤ℤ◌, ◌++◌, pos, codes, length, false, IfOk, IfErr, OnOk};
-ghost use Rattle.qe_bson.specs.Names.{is_named};
-ghost use Rattle.qe_bson.specs.Writing.{IsWhyRefused};
+ghost use Rattle.qe_document.specs.Names.{is_named};
+ghost use Rattle.qe_document.specs.Writing.{IsWhyRefused};
 ghost use Rattle.qe_payload.specs.Insert.{edges_value, needed_elements, insert_elements, written_insert, extra_names, picked_one, picked};
 ghost use Rattle.qe_payload.specs.Insert.{FewEdges, HasLongParts, AreOptionalEdges, IsInsert, IsInsertBlob};
 
@@ -10,7 +10,7 @@ use crate::entries::array_of;
 use crate::insert::{EdgeList, FIRST, InsertPayload, carry_all};
 use crate::written::{blob_of, bytes_of, put, put_binary};
 use qe_base::{Bytes, NoMemory};
-use qe_bson::{Document, EncodeFault, Value};
+use qe_document::{Document, EncodeFault, Value};
 use std::alloc::Global;
 
 /// The blob of a payload, its elements in the order of the type's fields. `read_insert` reads the payload again.

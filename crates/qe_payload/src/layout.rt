@@ -1,13 +1,13 @@
 //! Tables of elements, and the check of a document under one.
 
 ghost use Rattle.std.specs.Prelude.{◌≡◌, ◌∷◌, [], Option, OnOk};
-ghost use Rattle.qe_bson.specs.Names.{Distinct};
-ghost use Rattle.qe_bson.specs.Views.{plain};
+ghost use Rattle.qe_document.specs.Names.{Distinct};
+ghost use Rattle.qe_document.specs.Views.{plain};
 ghost use Rattle.qe_payload.specs.Refusal.{first_of, Checks};
 ghost use Rattle.qe_payload.specs.Elements.{Rule, Needs, missing, document_refusal};
 
 use crate::malformed::{Kind, Malformed, check_here};
-use qe_bson::{Document, Value};
+use qe_document::{Document, Value};
 use std::alloc::Global;
 
 /// What a document's elements have to be.

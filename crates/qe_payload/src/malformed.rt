@@ -4,7 +4,7 @@ ghost use Rattle.std.specs.Prelude.{◌≡◌, Option, Some};
 ghost use Rattle.qe_payload.specs.Refusal.{here, inside, Checks, IsRefusal, Refusal};
 
 use qe_base::{NoMemory, Text};
-use qe_bson::BsonFault;
+use qe_document::BsonFault;
 use std::alloc::{AllocError, Global};
 
 /// What is wrong with a payload or a command.

@@ -1,8 +1,8 @@
 //! Find payloads of ranges: FindRangePayloadV2.
 
 ghost use Rattle.std.specs.Prelude.{◌≡◌, codes, IfOk, IfErr, OnOk, None, Some, false};
-ghost use Rattle.qe_bson.specs.Names.{Distinct, value_named};
-ghost use Rattle.qe_bson.specs.Views.{plain};
+ghost use Rattle.qe_document.specs.Names.{Distinct, value_named};
+ghost use Rattle.qe_document.specs.Views.{plain};
 ghost use Rattle.qe_payload.specs.Refusal.{Checks};
 ghost use Rattle.qe_payload.specs.Arrays.{array_rule};
 ghost use Rattle.qe_payload.specs.Range as ranges;
@@ -20,7 +20,7 @@ use crate::malformed::{Kind, Malformed, check_here};
 use crate::shape::{int32, natural, token};
 use crate::written::{bytes_of, put_binary};
 use qe_base::{Listing, NoMemory};
-use qe_bson::{Document, Value};
+use qe_document::{Document, Value};
 use std::alloc::Global;
 
 /// The first byte of a find payload of a range.

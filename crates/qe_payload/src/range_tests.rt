@@ -1,6 +1,6 @@
 use crate::written::{blob_of, put};
 use crate::{FindEdge, FindEdges, FindRange, Kind, Malformed, read_range, write_range};
-use qe_bson::{Document, Value, Values};
+use qe_document::{Document, Value, Values};
 use std::alloc::Global;
 use std::process::Abort;
 use std::test::Fail;

@@ -1,7 +1,7 @@
 //! Find payloads of ranges that are written.
 
 ghost use Rattle.std.specs.Prelude.{◌≡◌, ◌≤◌, ◌≤ℤ◌, ◌++◌, pos, length, IfOk, IfErr};
-ghost use Rattle.qe_bson.specs.Writing.{IsWhyRefused};
+ghost use Rattle.qe_document.specs.Writing.{IsWhyRefused};
 ghost use Rattle.qe_payload.specs.Insert.{extra_names, picked};
 ghost use Rattle.qe_payload.specs.Range.{inner_elements, head_elements, range_elements, written_range, IsInner, IsRange, IsRangeBlob};
 
@@ -10,7 +10,7 @@ use crate::insert::carry_all;
 use crate::range::{FIRST, FIRST_OPERATOR, FindRange, SECOND_OPERATOR};
 use crate::written::{blob_of, put};
 use qe_base::{Bytes, NoMemory};
-use qe_bson::{Document, EncodeFault, Value};
+use qe_document::{Document, EncodeFault, Value};
 use std::alloc::Global;
 
 /// The blob of a payload, its elements in written order. `read_range` reads the payload again.

@@ -1,11 +1,11 @@
 //! Shapes of values: what is wrong with a value in its place.
 
 ghost use Rattle.std.specs.Prelude.{◌≡◌};
-ghost use Rattle.qe_bson.specs.Views.{plain};
+ghost use Rattle.qe_document.specs.Views.{plain};
 ghost use Rattle.qe_payload.specs.Shapes as shapes;
 
 use crate::malformed::Kind;
-use qe_bson::Value;
+use qe_document::Value;
 
 /// The length of a token, in bytes.
 pub(crate) const TOKEN_LEN: usize = 32;

@@ -1,5 +1,5 @@
 use crate::{FindEqual, Kind, Malformed, read_equal, write_equal};
-use qe_bson::{BsonFault, BsonKind};
+use qe_document::{BsonFault, BsonKind};
 use std::test::Fail;
 
 const EQUAL: &str =

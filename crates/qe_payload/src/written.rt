@@ -1,15 +1,15 @@
 //! Documents and blobs that are written.
 
 ghost use Rattle.std.specs.Prelude.{◌≡◌, ◌∷◌, [], ◌++◌, false, length, OnOk, IfOk, IfErr};
-ghost use Rattle.qe_bson.specs.Names.{is_named};
-ghost use Rattle.qe_bson.specs.Spelling.{document_bytes};
-ghost use Rattle.qe_bson.specs.Views.{plain};
-ghost use Rattle.qe_bson.specs.Writing.{IsWhyRefused};
-ghost use Rattle.qe_bson.specs.declared.value.Plain.TheVariants as p;
+ghost use Rattle.qe_document.specs.Names.{is_named};
+ghost use Rattle.qe_document.specs.Spelling.{document_bytes};
+ghost use Rattle.qe_document.specs.Views.{plain};
+ghost use Rattle.qe_document.specs.Writing.{IsWhyRefused};
+ghost use Rattle.qe_document.specs.declared.value.Plain.TheVariants as p;
 ghost use Rattle.qe_payload.specs.Blobs.{IsBlob};
 
 use qe_base::{Bytes, NoMemory, Text};
-use qe_bson::{Document, EncodeFault, PushFault, Value, encode};
+use qe_document::{Document, EncodeFault, PushFault, Value, encode};
 use std::alloc::Global;
 
 /// The bytes of an array, which are as many as its type says.

@@ -4,8 +4,8 @@ use Rattle.std.specs.Fmt.{decimal, signed_decimal}
 use Rattle.std.specs.List.{flat_map}
 use Rattle.hex.specs.Hex.{encode_lower}
 use Rattle.uuid.specs.Text.{hyphenated_text, lower}
-use Rattle.qe_bson.specs.Spelling.{spelled}
-use Rattle.qe_bson.specs.declared.value.Plain.{Plain}
+use Rattle.qe_document.specs.Spelling.{spelled}
+use Rattle.qe_document.specs.declared.value.Plain.{Plain}
 use Rattle.qe_payload.specs.Elements.{Element}
 
 unfoldable pub named : List ℕ → List ℕ → List ℕ

@@ -3,7 +3,7 @@
 use Rattle.std.specs.Prelude.{ℕ, List, [], ◌∷◌, ◌++◌, length, codes, Option, Some, None}
 use Rattle.std.specs.Fmt.{decimal}
 use Rattle.std.specs.List.{AllByRecursion}
-use Rattle.qe_bson.specs.Spelling.{IsDocument}
+use Rattle.qe_document.specs.Spelling.{IsDocument}
 use Rattle.qe_payload.specs.declared.equal.FindEqual.{FindEqual}
 use Rattle.qe_payload.specs.declared.insert.EdgeTokens.{EdgeTokens}
 use Rattle.qe_payload.specs.declared.insert.InsertPayload.{InsertPayload}

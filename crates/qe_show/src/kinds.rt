@@ -4,7 +4,7 @@ ghost use Rattle.std.specs.Prelude.{◌≡◌, IfOk};
 ghost use Rattle.qe_show.specs.Kinds.{with_number, bson_kind_text, bson_text, kind_text, indexed_text};
 
 use qe_base::{Bytes, NoMemory};
-use qe_bson::{BsonFault, BsonKind};
+use qe_document::{BsonFault, BsonKind};
 use qe_indexed::IndexedFault;
 use qe_payload::Kind;
 use std::alloc::Global;

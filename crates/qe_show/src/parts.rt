@@ -1,13 +1,13 @@
 //! The parts of a line.
 
 ghost use Rattle.std.specs.Prelude.{◌≡◌, ◌++◌, ◌∷◌, [], ℕ, List, string_bytes, IfOk, OnOk};
-ghost use Rattle.qe_bson.specs.Spelling.{spelled, IsDocument};
-ghost use Rattle.qe_bson.specs.Views.{plain};
+ghost use Rattle.qe_document.specs.Spelling.{spelled, IsDocument};
+ghost use Rattle.qe_document.specs.Views.{plain};
 ghost use Rattle.qe_show.specs.Parts.{named, hex_part, number_part, uuid_part, token_part, parts_from, carried_text, carried_parts};
 ghost use Rattle.qe_show.specs.Payloads.{AreWritable};
 
 use qe_base::{Bytes, NoMemory};
-use qe_bson::{Document, EncodeFault, Value, value_bytes, value_kind};
+use qe_document::{Document, EncodeFault, Value, value_bytes, value_kind};
 use std::alloc::Global;
 use uuid::Uuid;
 

@@ -5,7 +5,7 @@ ghost use Rattle.std.specs.Result.{result_ok};
 ghost use Rattle.base64.specs.Engines.{standard};
 ghost use Rattle.base64.specs.GeneralPurpose.{decode_of};
 ghost use Rattle.serde_json.specs.View.{view, members_view, number_view};
-ghost use Rattle.qe_bson.specs.Views.{plain};
+ghost use Rattle.qe_document.specs.Views.{plain};
 ghost use Rattle.qe_bson.specs.JsonAnswers.{Gives};
 ghost use Rattle.qe_bson.specs.JsonForms.{form_named, only_member, member_seen, form_of, form_seen};
 ghost use Rattle.qe_bson.specs.JsonForms.{whole_in, whole_at, bytes_at, date_at, has_names, text_at, subtype_at, binary_at};

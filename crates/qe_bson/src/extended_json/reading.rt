@@ -2,7 +2,7 @@
 
 ghost use Rattle.std.specs.Prelude.{◌≡◌};
 ghost use Rattle.serde_json.specs.View.{view, items_view, members_view};
-ghost use Rattle.qe_bson.specs.Views.{plain};
+ghost use Rattle.qe_document.specs.Views.{plain};
 ghost use Rattle.qe_bson.specs.JsonAnswers.{Gives};
 ghost use Rattle.qe_bson.specs.JsonReading.{value_at, array_at, object_at, items_at, fields_at, value_of_json};
 

@@ -1,6 +1,6 @@
 use Rattle.std.proofs.Common.{◌≡◌, ◌+◌, ap, sym, ◌∙◌, rules, refl, None}
 use Rattle.std.specs.Prelude.{decimal}
-use Rattle.qe_bson.specs.Views.{plain}
+use Rattle.qe_document.specs.Views.{plain}
 use Rattle.qe_payload.specs.Refusal.{Checks, first_of_two}
 use Rattle.qe_payload.specs.Arrays.{document_rule}
 use Rattle.qe_payload.proofs.ArrayLemmas.{items_left, items_left-next, items_left-end}

@@ -1,5 +1,5 @@
 use Rattle.std.proofs.Common.{subst, sym}
-use Rattle.qe_bson.specs.declared.value.Plain.TheVariants.{Array}
+use Rattle.qe_document.specs.declared.value.Plain.TheVariants.{Array}
 use Rattle.qe_payload.specs.Arrays.{AreEach, IsList}
 use Rattle.qe_payload.proofs.EntryLemmas.{list_laid}
 use Rattle.qe_payload.proofs.entries.array_of.Goals as goal

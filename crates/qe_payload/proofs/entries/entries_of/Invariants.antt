@@ -1,5 +1,5 @@
 use Rattle.std.proofs.Common.{take, map}
-use Rattle.qe_bson.specs.Views.{plain}
+use Rattle.qe_document.specs.Views.{plain}
 use Rattle.qe_payload.specs.Arrays.{AreEach}
 use Rattle.qe_payload.proofs.entries.entries_of.Given as goal
 

@@ -1,6 +1,6 @@
 use Rattle.std.proofs.Common.{◌≡◌, sym, ◌∙◌, Some}
 use Rattle.std.specs.Prelude.{IfOk}
-use Rattle.qe_bson.specs.Views.{plain}
+use Rattle.qe_document.specs.Views.{plain}
 use Rattle.qe_payload.specs.Arrays.{items_of, AreEach}
 use Rattle.qe_payload.proofs.ArrayLemmas.{items_of-plain}
 use Rattle.qe_payload.proofs.EntryLemmas.{array_found, array_there, list_found}

@@ -1,7 +1,7 @@
 use Rattle.std.proofs.Common.{◌≡◌, ◌+◌, ◌++◌, ◌∷◌, [], take, ap, sym, ◌∙◌, Some}
 use Rattle.std.proofs.lemmas.List.{map-append}
-use Rattle.qe_bson.specs.declared.value.Value.TheVariants as v
-use Rattle.qe_bson.specs.declared.value.Plain.TheVariants.{Doc}
+use Rattle.qe_document.specs.declared.value.Value.TheVariants as v
+use Rattle.qe_document.specs.declared.value.Plain.TheVariants.{Doc}
 use Rattle.qe_payload.specs.Arrays.{fields_of, trees, IsDocument}
 use Rattle.qe_payload.proofs.ArrayLemmas.{fields_of-plain}
 use Rattle.qe_payload.proofs.EntryLemmas.{take_next, AreEach-written}

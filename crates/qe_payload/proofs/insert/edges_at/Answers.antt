@@ -1,6 +1,6 @@
 use Rattle.std.proofs.Common.{sym}
 use Rattle.std.specs.Prelude.{codes}
-use Rattle.qe_bson.specs.Views.{plain}
+use Rattle.qe_document.specs.Views.{plain}
 use Rattle.qe_payload.proofs.InsertLemmas.{insert_g}
 use Rattle.qe_payload.proofs.insert.edges_at.Goals as goal
 

@@ -1,5 +1,5 @@
 use Rattle.std.proofs.Common.{◌+◌, ap, ◌∙◌, refl, rules, arith}
-use Rattle.qe_bson.specs.Views.{plain}
+use Rattle.qe_document.specs.Views.{plain}
 use Rattle.qe_payload.specs.Refusal.{first_of, first_of_two, Checks}
 use Rattle.qe_payload.specs.Elements.{missing}
 use Rattle.qe_payload.proofs.ScanLemmas.{left, left-next, left-end, stops}

@@ -1,8 +1,8 @@
 use Rattle.std.proofs.Common.{◌≡◌, ap, sym, ◌∙◌, None, Some}
 use Rattle.std.specs.Option.{option_map, option_copied}
 use Rattle.std.specs.Prelude.{codes}
-use Rattle.qe_bson.specs.Names.{value_named}
-use Rattle.qe_bson.specs.Views.{plain}
+use Rattle.qe_document.specs.Names.{value_named}
+use Rattle.qe_document.specs.Views.{plain}
 use Rattle.qe_payload.proofs.ArrayLemmas.{fields_of-plain}
 use Rattle.qe_payload.proofs.RangeLemmas.{range_inner, range_fields, range_there}
 use Rattle.qe_payload.proofs.range.inner_at.Goals as goal

@@ -1,7 +1,7 @@
 use Rattle.std.proofs.Common.{refl, rules, w32, w64}
 use Rattle.std.specs.Prelude.{codes}
 use Rattle.std.proofs.lemmas.Int.{to_z-of_z}
-use Rattle.qe_bson.specs.Views.{plain}
+use Rattle.qe_document.specs.Views.{plain}
 use Rattle.qe_payload.specs.Range.{inner_rule, inner_needs, inner_refusal, range_rule, range_needs, range_refusal}
 use Rattle.qe_payload.specs.Shapes.{int32, natural}
 use Rattle.qe_payload.proofs.RangeLemmas.{inner_only, range_first, range_second, range_only}

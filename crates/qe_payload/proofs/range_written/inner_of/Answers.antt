@@ -1,5 +1,5 @@
 use Rattle.std.proofs.Common.{◌≡◌, sym, subst, rules}
-use Rattle.qe_bson.specs.declared.value.Plain.TheVariants.{Array}
+use Rattle.qe_document.specs.declared.value.Plain.TheVariants.{Array}
 use Rattle.qe_payload.specs.Arrays.{trees}
 use Rattle.qe_payload.specs.Range.{find_edge_elements, IsFindEdgeList, inner_elements, IsInner}
 use Rattle.qe_payload.proofs.RangeWrittenLemmas.{inner_laid}

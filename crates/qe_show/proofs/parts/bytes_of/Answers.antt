@@ -1,5 +1,5 @@
 use Rattle.std.proofs.Common.{sym, ◌∙◌}
-use Rattle.qe_bson.specs.Views.{plain}
+use Rattle.qe_document.specs.Views.{plain}
 use Rattle.qe_show.proofs.CarriedLemmas.{no_other_fault}
 use Rattle.qe_show.proofs.parts.bytes_of.Goals as goal
 use Rattle.qe_show.proofs.parts.bytes_of.Goals.{in-NoMemory, in_default}

@@ -1,5 +1,5 @@
 use Rattle.std.proofs.Common.{◌≡◌, ◌+◌, ◌++◌, drop, sym, ap, ◌∙◌, append_assoc}
-use Rattle.qe_bson.specs.Views.{plain}
+use Rattle.qe_document.specs.Views.{plain}
 use Rattle.qe_show.specs.Parts.{named, carried_text, carried_parts}
 use Rattle.qe_show.proofs.CarriedLemmas.{element_next}
 use Rattle.qe_show.proofs.parts.put_carried.Goals as goal

@@ -1,6 +1,6 @@
 use Rattle.std.proofs.Common.{◌≡◌, drop, map}
 use Rattle.serde_json.specs.View.{items_view, members_view}
-use Rattle.qe_bson.specs.Views.{field_view}
+use Rattle.qe_document.specs.Views.{field_view}
 use Rattle.qe_bson.specs.JsonReading.{items_at, fields_at}
 use Rattle.qe_bson.proofs.JsonReadLemmas.{with_items, with_fields}
 use Rattle.qe_bson.proofs.extended_json.reading.+read.Given as goal

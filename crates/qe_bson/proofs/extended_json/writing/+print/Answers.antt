@@ -3,8 +3,8 @@ use Rattle.std.proofs.lemmas.List.{map_push, take_all}
 use Rattle.std.proofs.lemmas.Result.{err_from_is_err_and}
 use Rattle.serde_json.proofs.Views.{view-Array, view-Object}
 use Rattle.serde_json.specs.View.{view, members_view}
-use Rattle.qe_bson.specs.Falls.{size_of-Doc, size_of-Array}
-use Rattle.qe_bson.specs.Views.{plain, size_of}
+use Rattle.qe_document.specs.Falls.{size_of-Doc, size_of-Array}
+use Rattle.qe_document.specs.Views.{plain, size_of}
 use Rattle.qe_bson.specs.JsonReading.{then}
 use Rattle.qe_bson.specs.JsonWriting.{array_data, object_data}
 use Rattle.qe_bson.proofs.JsonPrintLemmas.{item_size, field_size, items_go_on, items_fail, items_done, fields_go_on, fields_fail, fields_done}

@@ -1,7 +1,7 @@
 use Rattle.std.proofs.Common.{◌≡◌, ◌+◌, ◌*◌, true, drop, take, map}
 use Rattle.serde_json.specs.Data.{no_members}
 use Rattle.serde_json.specs.View.{view, members_view}
-use Rattle.qe_bson.specs.Views.{plain, size_of, size_of_items, size_of_fields}
+use Rattle.qe_document.specs.Views.{plain, size_of, size_of_items, size_of_fields}
 use Rattle.qe_bson.specs.JsonRound.{fields_typed, items_typed}
 use Rattle.qe_bson.specs.JsonWriting.{all_of, members_from, json_of, json_field}
 use Rattle.qe_bson.proofs.JsonPrintLemmas.{with_data}
