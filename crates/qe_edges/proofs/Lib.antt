@@ -10,7 +10,9 @@ mod OffsetLemmas
 mod RulesLemmas
 mod ShareLemmas
 mod StepLemmas
+mod StoredLemmas
 mod TallyLemmas
 mod TextLemmas
+mod TreeLemmas
 mod WalkLemmas
 mod WidestLemmas

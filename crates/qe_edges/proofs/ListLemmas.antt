@@ -1,7 +1,7 @@
 -- Lists of prefixes by their members and their order.
-use Rattle.std.proofs.Common.{◌≡◌, ℕ, zero, suc, ◌<◌, List, [], ◌∷◌, get_or, inl, inr, ◌⊎◌, refl, sym, ap, ap₂, ◌∙◌, subst, arith}
+use Rattle.std.proofs.Common.{◌≡◌, ℕ, zero, suc, ◌<◌, List, [], ◌∷◌, ◌++◌, get_or, inl, inr, ◌⊎◌, refl, sym, ap, ap₂, ◌∙◌, subst, arith}
 use Rattle.std.specs.List.{All, Contains}
-use Rattle.std.proofs.lemmas.List.Elements.{Contains-get_or}
+use Rattle.std.proofs.lemmas.List.Elements.{Contains-get_or, Contains-append_cases}
 use Rattle.qe_edges.specs.Prefixes.{Lists, Rises, OneEdgeList, OneCoverList, IsEdgeOf, IsInCover, lowest_of}
 use Rattle.qe_edges.specs.declared.edge.Edge.{Edge}
 
@@ -27,6 +27,25 @@ first_below number x xs rises e (k, within, at) = subst (λ f. number x < number
 
 rest_rises : (number : Edge → ℕ) (x : Edge) (xs : List Edge) → Rises number (x ∷ xs) → Rises number xs
 rest_rises number x xs rises i j d less within = rises (suc i) (suc j) d (omega arith) (omega arith)
+
+-- a list rises behind a first that is below its members
+rises_cons : (number : Edge → ℕ) (x : Edge) (xs : List Edge) → Rises number xs
+    → ((e : Edge) → Contains xs e → number x < number e) → Rises number (x ∷ xs)
+rises_cons number x xs rises below zero zero d less within = absurd (omega arith)
+rises_cons number x xs rises below zero (suc j) d less within = below (get_or xs j d) (Contains-get_or xs j d (omega arith))
+rises_cons number x xs rises below (suc i) zero d less within = absurd (omega arith)
+rises_cons number x xs rises below (suc i) (suc j) d less within = rises i j d (omega arith) (omega arith)
+
+-- .. and behind a list that is
+pub rises_behind : (number : Edge → ℕ) (xs ys : List Edge) → Rises number xs → Rises number ys
+    → ((e f : Edge) → Contains xs e → Contains ys f → number e < number f) → Rises number (xs ++ ys)
+rises_behind number [] ys xs_rise ys_rise below = ys_rise
+rises_behind number (x ∷ xs) ys xs_rise ys_rise below = rises_cons number x (xs ++ ys)
+    (rises_behind number xs ys (rest_rises number x xs xs_rise) ys_rise (λ e f has. below e f (contains_rest x xs e has)))
+    (λ f has. elim (Contains-append_cases xs ys f has) [
+      | inl behind ↦ first_below number x xs xs_rise f behind
+      | inr above ↦ below x f (contains_first x xs) above
+    ])
 
 -- rising lists with the same members are one
 one_rising : (number : Edge → ℕ) (xs ys : List Edge) → Rises number xs → Rises number ys

@@ -1,6 +1,6 @@
 -- The rules of a range field, and the prefix lengths that they store, as in the range index of MongoDB's Queryable
 -- Encryption (libmongocrypt, edge generation). The limits and the default trim factor are this project's own.
-use Rattle.std.specs.Prelude.{◌≡◌, ℕ, ◌-◌, ◌*◌, ◌^◌, ◌%◌, ◌<◌, ◌≤◌, ◌⊎◌, min, ℤ, ◌-ℤ◌, ◌<ℤ◌, ◌≤ℤ◌, unsigned_abs, FitsSigned, Option, unwrap_or}
+use Rattle.std.specs.Prelude.{◌≡◌, ℕ, zero, suc, ◌+◌, ◌-◌, ◌*◌, ◌^◌, ◌%◌, ◌<◌, ◌≤◌, ◌⊎◌, ◌↔◌, Bool, IsTrue, ◌==◌, ◌&&◌, ◌||◌, nat_lt, nat_le, if◌then◌else◌, List, [], ◌∷◌, ◌++◌, min, ℤ, ◌-ℤ◌, ◌<ℤ◌, ◌≤ℤ◌, unsigned_abs, FitsSigned, Option, unwrap_or}
 use Rattle.std.specs.Int.{w64, leading_zeros}
 
 -- the least and the greatest value, the sparsity and the trim factor
@@ -36,6 +36,25 @@ pub data IsStored (rules : Rules) (level : ℕ) : Type 0 where
   leaf : level ≡ bits_of rules → IsStored rules level
   between : 1 ≤ level → level < bits_of rules → rules.trim ≤ level → level % rules.sparsity ≡ 0 → IsStored rules level
   root : level ≡ 0 → rules.trim ≡ 0 → IsStored rules level
+
+-- whether prefixes of so many digits are stored
+abbrev pub is_stored : Rules → ℕ → Bool
+is_stored rules level = (level == bits_of rules)
+    || nat_le 1 level && nat_lt level (bits_of rules) && nat_le rules.trim level && level % rules.sparsity == 0
+    || level == 0 && rules.trim == 0
+
+-- the stored levels below a level, rising
+abbrev pub stored_below : Rules → ℕ → List ℕ
+stored_below rules zero = []
+stored_below rules (suc level) = stored_below rules level ++ (if is_stored rules level then level ∷ [] else [])
+
+-- the stored levels, rising
+abbrev pub stored_levels : Rules → List ℕ
+stored_levels rules = stored_below rules (bits_of rules + 1)
+
+-- the test tells the stored levels
+abbrev pub TellsStored : Type 0
+TellsStored = (rules : Rules) (level : ℕ) → IsTrue (is_stored rules level) ↔ IsStored rules level
 
 -- the shortest stored level of at least so many digits
 pub record IsShortestFrom (rules : Rules) (level shortest : ℕ) : Type 0 where

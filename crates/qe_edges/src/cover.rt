@@ -1,20 +1,26 @@
-ghost use Rattle.std.specs.Prelude.{◌^◌, ◌<◌, ◌≤◌, length, All, IfOk};
+//! The cover of an interval.
+
+ghost use Rattle.std.specs.Prelude.{◌≡◌, ◌^◌, ◌<◌, ◌≤◌, length, All, IfOk};
 ghost use Rattle.qe_edges.specs.Rules.{bits_of};
-ghost use Rattle.qe_edges.specs.Prefixes.{Lists, Rises, IsSpelled, lowest_of, IsCoverPrefix, IsInCover};
+ghost use Rattle.qe_edges.specs.Prefixes.{Lists, Rises, IsSpelled, lowest_of, IsCoverPrefix, IsInCover, cover_of, most_of_cover};
 ghost use Rattle.qe_edges.specs.Walk.{Between, IsWidestAt};
 
 use crate::{Domain, Edge, Edges};
 use qe_base::NoMemory;
 use std::alloc::Global;
 
+/// The most prefixes that a cover has.
+pub const MOST_OF_COVER: usize = 4096;
+
 impl Domain {
     /// The cover of an interval, in rising order. The ends are cut with the domain; where nothing is left the cover is
     /// empty. It takes one step for each prefix that it gives.
     pub fn cover(&self, alloc: Global, lo: i64, hi: i64) -> Result<Edges, NoMemory>
+        ensures exact { IfOk result (λ cover. cover ≡ cover_of self.now lo hi) }
         ensures members { IfOk result (Lists (IsInCover self.now lo hi)) }
         ensures order { IfOk result (Rises (lowest_of self.now)) }
         ensures spelled { IfOk result (All IsSpelled) }
-        ensures count { IfOk result (λ cover. length cover ≤ 4096) }
+        ensures count { IfOk result (λ cover. length cover ≤ most_of_cover) }
     {
         let lo = lo.max(self.min());
         let hi = hi.min(self.max());
@@ -30,7 +36,7 @@ impl Domain {
         ensures members { IfOk result (Lists (IsCoverPrefix self.now (Between first end))) }
         ensures order { IfOk result (Rises (lowest_of self.now)) }
         ensures spelled { IfOk result (All IsSpelled) }
-        ensures count { IfOk result (λ cover. length cover ≤ 4096) }
+        ensures count { IfOk result (λ cover. length cover ≤ most_of_cover) }
     {
         let bits = self.bits();
         let mut cover = Edges::new(alloc);

@@ -1,3 +1,5 @@
+//! Domains: the rules of a range field, and which make one.
+
 ghost use Rattle.std.specs.Prelude.{◌≡◌, ◌^◌, ◌<◌, ◌≤◌, ◌<ℤ◌, ◌≤ℤ◌, ◌↔◌, Err, IsTrue, IfOk};
 ghost use Rattle.qe_edges.specs.Rules.{offset_of, bits_of, binary_digits, HasDigits, rules_of, IsSparsity, HasTrimFault, InDomain, IsDomain};
 
@@ -5,7 +7,7 @@ use crate::levels::stored_from;
 use std::marker::Model;
 use thiserror::Error;
 
-/// The greatest lowest stored level. With it a cover has at most 4,096 prefixes.
+/// The greatest lowest stored level. With it a cover has at most `MOST_OF_COVER` prefixes.
 const GREATEST_LOWEST_LEVEL: u32 = 10;
 
 /// The trim factor where none is given, for strings of more digits.

@@ -1,3 +1,5 @@
+//! Prefixes and their texts.
+
 ghost use Rattle.std.specs.Prelude.{◌≡◌, ◌≤◌, length, take};
 ghost use Rattle.qe_edges.specs.Texts.{text_of};
 

@@ -1,3 +1,5 @@
+//! The levels at which prefixes are stored.
+
 ghost use Rattle.std.specs.Prelude.{◌≡◌, ◌+◌, ◌^◌, ◌<◌, ◌≤◌, min, max};
 ghost use Rattle.std.specs.Int.{next_multiple_of};
 ghost use Rattle.qe_edges.specs.Rules.{bits_of, IsShortestFrom};

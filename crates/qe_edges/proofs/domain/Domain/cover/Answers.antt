@@ -1,4 +1,4 @@
-use Rattle.std.proofs.Common.{◌≡◌, ◌+◌, ◌<ℤ◌, ◌≤ℤ◌, rules}
+use Rattle.std.proofs.Common.{◌≡◌, ◌+◌, ◌<ℤ◌, ◌≤ℤ◌, rules, arith}
 use Rattle.std.specs.Int.{int_max, int_min}
 use Rattle.std.proofs.lemmas.Result.{IfOk-weaker}
 use Rattle.qe_edges.specs.Rules.{offset_of}
@@ -6,6 +6,7 @@ use Rattle.qe_edges.specs.Prefixes.{Lists, InInterval, IsCoverPrefix}
 use Rattle.qe_edges.specs.Walk.{Between}
 use Rattle.qe_edges.proofs.OffsetLemmas.{interval_between, interval_empty}
 use Rattle.qe_edges.proofs.CoverLemmas.{lists_same, lists_none}
+use Rattle.qe_edges.proofs.TreeLemmas.{exact_cover, exact_if_ok}
 use Rattle.qe_edges.proofs.domain.Domain.cover.Goals as goal
 
 pub returns-then-lo-hi-clause-members : goal.returns-then-lo-hi-clause-members
@@ -30,3 +31,11 @@ returns-clause-members c =
     let numbers = Between c.offset.result (c.offset-2.result + 1) in
     IfOk-weaker c.walk.result (Lists (IsCoverPrefix rules' numbers)) (Lists (IsCoverPrefix rules' set))
     (λ items listed. lists_same rules' numbers set (rw (start, end) same) items listed) c.walk.ensures.members
+
+pub returns-then-lo-hi-clause-exact : goal.returns-then-lo-hi-clause-exact
+returns-then-lo-hi-clause-exact c = exact_cover c.args.self.now c.args.lo c.args.hi c.new.result
+    (returns-then-lo-hi-clause-members c) (rw c.new.ensures (λ i j d less within. absurd (omega (arith, within))))
+
+pub returns-clause-exact : goal.returns-clause-exact
+returns-clause-exact c =
+    exact_if_ok c.args.self.now c.args.lo c.args.hi c.walk.result (returns-clause-members c) c.walk.ensures.order

@@ -1,6 +1,7 @@
 use Rattle.std.proofs.Common.{◌≡◌, rules}
 use Rattle.qe_edges.specs.Rules.{offset_of}
 use Rattle.qe_edges.proofs.EdgeLemmas.{none_listed, all_listed, few_listed, next_listed, all_spelled}
+use Rattle.qe_edges.proofs.StoredLemmas.{exact_edges}
 use Rattle.qe_edges.proofs.domain.Domain.edges.Goals as goal
 
 pub loop-level-init : goal.loop-level-init
@@ -26,3 +27,6 @@ returns-clause-count c = few_listed c.args.self.now c.offset-number.result c.loo
 pub returns-clause-spelled : goal.returns-clause-spelled
 returns-clause-spelled c = all_spelled c.args.self.now c.offset-number.result c.loop-level.level c.loop-level.edges
     c.loop-level.invariant c.offset-number.ensures.within
+
+pub returns-clause-exact : goal.returns-clause-exact
+returns-clause-exact c = exact_edges c.args.self.now c.args.v c.loop-level.edges (returns-clause-members c) c.loop-level.invariant.order
