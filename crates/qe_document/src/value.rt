@@ -137,6 +137,26 @@ impl Value {
         }
     }
 
+    /// The document, where the value is one.
+    pub fn into_document(self) -> Option<Document>
+        ensures { result ≡ document_in self }
+    {
+        match self {
+            Value::Doc(document) => Some(document),
+            _ => None,
+        }
+    }
+
+    /// The items, where the value is an array.
+    pub fn into_array(self) -> Option<Values>
+        ensures { result ≡ array_in self }
+    {
+        match self {
+            Value::Array(items) => Some(items),
+            _ => None,
+        }
+    }
+
     /// The items, where the value is an array.
     pub fn as_array(&self) -> Option<&Values>
         ensures { option_copied result ≡ array_in self.now }
@@ -177,6 +197,13 @@ impl Values {
         ensures { map plain result.now ≡ self.now }
     {
         self.items.as_slice()
+    }
+
+    /// The items as a vector.
+    pub fn into_vec(self) -> Vec<Value>
+        ensures { map plain result.items ≡ self }
+    {
+        self.items
     }
 
     /// Adds an item at the end.
@@ -249,6 +276,14 @@ impl Document {
             }
         }
         None
+    }
+
+    /// The fields as a vector.
+    pub fn into_fields(self) -> Vec<(Text, Value)>
+        ensures fields { map field_view result.items ≡ self }
+        ensures distinct { Distinct self }
+    {
+        self.fields
     }
 
     /// Adds a field at the end. A refusal changes nothing and drops the name and the value.

@@ -1,0 +1,8 @@
+use Rattle.std.proofs.Common.{◌≡◌, drop}
+use Rattle.qe_layout.specs.Layouts.{complete_in}
+use Rattle.qe_layout.proofs.layout.check_rows.Given as goal
+
+-- the rows before the place are there
+abbrev pub invariant-loop-place : goal.invariant-loop-place
+invariant-loop-place g l =
+    complete_in (g.L.Layout.rows l.layout) l.slots ≡ complete_in (drop l.place (g.L.Layout.rows l.layout)) (drop l.place l.slots)

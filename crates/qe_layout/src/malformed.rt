@@ -1,0 +1,106 @@
+//! Refusals, with the path at which they come.
+
+ghost use Rattle.std.specs.Prelude.{Result};
+ghost use Rattle.qe_layout.specs.Refusal.{Reads, Refusal, read_inside, wrong};
+
+use qe_base::{NoMemory, Text};
+use qe_document::BsonFault;
+use std::alloc::{AllocError, Global};
+
+/// What is wrong with a payload or a command.
+#[derive(Clone, Copy, Debug, PartialEq, Eq)]
+pub enum Kind {
+    /// A blob has no bytes.
+    Empty,
+    /// A blob's first byte, which is given, is another than the call reads.
+    BlobSubtype(u8),
+    /// The bytes hold no document; a place counts from the document's first byte.
+    Bson(BsonFault),
+    /// So many bytes stand behind the document.
+    Trailing(u64),
+    /// A name is none of the table's.
+    Unknown,
+    /// A value has another type or subtype.
+    WrongType,
+    /// A binary has so many bytes, and another number is wanted.
+    WrongLength(u64),
+    /// A number is below 0.
+    Negative,
+    /// An insert payload has an empty array of edges.
+    NoEdges,
+    /// An array has so many edges, which is more than are allowed.
+    TooManyEdges(u64),
+    /// An operator is another than the one of its place, or the second isn't there.
+    ProfileOperator,
+    /// A name isn't there.
+    Missing,
+    /// A command's name is none of the known.
+    UnknownOp,
+    /// A name is kept for the server.
+    ReservedName,
+    /// The schema has no such field.
+    NotInSchema,
+    /// A payload is of another kind than its field's.
+    KindDiffers,
+    /// A payload has another key than its field's.
+    KeyDiffers,
+    /// A contention factor is above its field's limit.
+    ContentionAbove { got: u64, limit: u64 },
+    /// A step's limit, which is given, is out of range.
+    BadLimit(i32),
+}
+
+/// Why a blob or a command was refused.
+#[derive(Drop)]
+pub enum Malformed {
+    /// The first refusal, at a path: names, and indices of arrays, joined by dots; `.` is the whole.
+    At { path: Text, kind: Kind },
+    /// There was no memory.
+    NoMemory,
+}
+
+impl From<NoMemory> for Malformed {
+    ghost use Rattle.std.specs.Prelude.{◌≡◌};
+    ghost use Rattle.qe_layout.specs.declared.malformed.Malformed.TheVariants.{NoMemory};
+
+    ghost from_gives = { λ _ fault. fault ≡ NoMemory };
+
+    fn from(_: NoMemory) -> Self {
+        Malformed::NoMemory
+    }
+}
+
+impl From<AllocError> for Malformed {
+    ghost use Rattle.std.specs.Prelude.{◌≡◌};
+    ghost use Rattle.qe_layout.specs.declared.malformed.Malformed.TheVariants.{NoMemory};
+
+    ghost from_gives = { λ _ fault. fault ≡ NoMemory };
+
+    fn from(_: AllocError) -> Self {
+        Malformed::NoMemory
+    }
+}
+
+/// Refuses what stands at a path.
+pub fn refuse<T>(alloc: Global, path: &str, kind: Kind) -> Result<T, Malformed>
+    ensures { Reads result (wrong path.now kind) }
+{
+    match Text::of(alloc, path) {
+        Ok(path) => Err(Malformed::At { path, kind }),
+        Err(NoMemory) => Err(Malformed::NoMemory),
+    }
+}
+
+/// What was read inside what stands under a name: the name and a dot are put before a refusal's path.
+pub fn inside<T>(alloc: Global, name: &str, read: Result<T, Malformed>) -> Result<T, Malformed>
+    ensures { (due : Result T Refusal) → Reads read due → Reads result (read_inside name.now due) }
+{
+    match read {
+        Ok(answer) => Ok(answer),
+        Err(Malformed::At { path, kind }) => match format!(in alloc; "{name}.{}", path.as_str()) {
+            Ok(longer) => refuse(alloc, longer.as_str(), kind),
+            Err(_) => Err(Malformed::NoMemory),
+        },
+        Err(Malformed::NoMemory) => Err(Malformed::NoMemory),
+    }
+}
