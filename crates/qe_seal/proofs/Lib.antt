@@ -5,3 +5,4 @@ pub mod PaddingLemmas
 pub mod CbcLawLemmas
 pub mod SealLemmas
 pub mod SealLawLemmas
+pub mod EncipheredLemmas

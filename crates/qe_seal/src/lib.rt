@@ -7,15 +7,15 @@
 
 mod blocks;
 mod cbc;
+mod enciphered;
 mod laws;
 mod mac;
 mod padding;
 mod pieces;
 mod sealed;
-#[cfg(test)]
-mod tests;
 
 pub use cbc::{CbcFault, cbc_decrypt, cbc_encrypt};
-pub use laws::{cbc_laws, examples, seal_laws};
+pub use enciphered::{decipher, decipher_pair, encipher, encipher_pair};
+pub use laws::{cbc_laws, cipher_laws, examples, seal_laws};
 pub use mac::{HmacKey, hmac, prf1, prf2};
 pub use sealed::{SealFault, seal, unseal};

@@ -1,3 +1,5 @@
+//! HMAC-SHA-256 (RFC 2104), of a message and of numbers.
+
 ghost use Rattle.std.specs.Prelude.{◌≡◌, ℕ, List, ◌-◌, ◌++◌, ◌≤◌, length, replicate};
 ghost use Rattle.sha2.specs.Sha256.{sha256};
 ghost use Rattle.sha2.specs.Hashers.{Holds256};
@@ -43,6 +45,22 @@ impl HmacKey {
         self.mac_of_parts(message, &[], &[])
     }
 
+    /// `prf1` under the key.
+    #[tactic(auto, unfolding(crate::specs::Hmac::prf1_of))]
+    pub fn prf1(&self, a: u64) -> [u8; 32]
+        ensures { (key : List ℕ) → IsKeyedBy self.now key → result ≡ prf1_of key a }
+    {
+        self.mac(&a.to_le_bytes())
+    }
+
+    /// `prf2` under the key.
+    #[tactic(auto, unfolding(crate::specs::Hmac::prf2_of))]
+    pub fn prf2(&self, a: u64, b: u64) -> [u8; 32]
+        ensures { (key : List ℕ) → IsKeyedBy self.now key → result ≡ prf2_of key a b }
+    {
+        self.mac_of_parts(&a.to_le_bytes(), &b.to_le_bytes(), &[])
+    }
+
     /// `hmac` of a message in three parts, hashed one after another, so that no buffer is needed.
     #[tactic(auto, unfolding(crate::specs::Hmac::hmac_sha256))]
     pub(crate) fn mac_of_parts(&self, first: &[u8], second: &[u8], third: &[u8]) -> [u8; 32]
@@ -61,19 +79,17 @@ pub fn hmac(key: &[u8], message: &[u8]) -> [u8; 32]
 }
 
 /// HMAC-SHA-256 of one number, as 8 little-endian bytes.
-#[tactic(auto, unfolding(crate::specs::Hmac::prf1_of))]
 pub fn prf1(key: &[u8; 32], a: u64) -> [u8; 32]
     ensures { result ≡ prf1_of key.now a }
 {
-    HmacKey::new(key).mac(&a.to_le_bytes())
+    HmacKey::new(key).prf1(a)
 }
 
 /// HMAC-SHA-256 of two numbers, as 8 little-endian bytes each.
-#[tactic(auto, unfolding(crate::specs::Hmac::prf2_of))]
 pub fn prf2(key: &[u8; 32], a: u64, b: u64) -> [u8; 32]
     ensures { result ≡ prf2_of key.now a b }
 {
-    HmacKey::new(key).mac_of_parts(&a.to_le_bytes(), &b.to_le_bytes(), &[])
+    HmacKey::new(key).prf2(a, b)
 }
 
 // A hasher of one block.
