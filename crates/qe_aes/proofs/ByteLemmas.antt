@@ -2,7 +2,7 @@
 use Rattle.std.proofs.Common.{◌<◌, ℕ, zero, suc, List, [], ◌∷◌, ◌++◌, take, drop, map, bit_xor, lit<}
 use Rattle.std.proofs.lemmas.Nat.{xor_lt}
 use Rattle.qe_aes.specs.Field.{xor_bytes}
-use Rattle.qe_aes.specs.Laws.{AreBytes}
+use Rattle.qe_base.specs.Bytes.{AreBytes}
 
 -- of no bytes
 pub AreBytes-nil : AreBytes []

@@ -4,7 +4,8 @@ use Rattle.qe_aes.specs.Steps.{sub_bytes, shift_rows, mix_columns, mix_factors, 
 use Rattle.qe_aes.specs.Steps.{inv_sub_bytes, inv_shift_rows}
 use Rattle.qe_aes.specs.KeySchedule.{key_schedule}
 use Rattle.qe_aes.specs.Cipher.{round, rounds, cipher, inv_round, inv_rounds, inv_cipher, aes_256, inv_aes_256}
-use Rattle.qe_aes.specs.Laws.{AreBytes, IsBlock}
+use Rattle.qe_base.specs.Bytes.{AreBytes}
+use Rattle.qe_aes.specs.Laws.{IsBlock}
 use Rattle.qe_aes.proofs.ScheduleLemmas.{AreWords, AreWords-key_schedule}
 use Rattle.qe_aes.proofs.StepLemmas.{inv_sub_bytes-sub_bytes, sub_bytes-inv_sub_bytes, inv_shift_rows-shift_rows}
 use Rattle.qe_aes.proofs.StepLemmas.{shift_rows-inv_shift_rows, add_round_key-add_round_key}

@@ -13,7 +13,7 @@ use Rattle.qe_aes.specs.Field.{xor_bytes, sub_byte}
 use Rattle.qe_aes.specs.KeySchedule.{word_at, rot_word, sub_word, power_of_x, round_constant, temp_word, next_word, key_words}
 use Rattle.qe_aes.specs.KeySchedule.{expansion, key_schedule}
 use Rattle.qe_aes.specs.Words.{word_bytes, words_of, key_of}
-use Rattle.qe_aes.specs.Laws.{AreBytes}
+use Rattle.qe_base.specs.Bytes.{AreBytes}
 use Rattle.qe_aes.proofs.ByteLemmas.{AreBytes-nil, AreBytes-cons, AreBytes-append, AreBytes-take, AreBytes-drop, AreBytes-map}
 use Rattle.qe_aes.proofs.ByteLemmas.{AreBytes-xor_bytes}
 use Rattle.qe_aes.proofs.FieldLemmas.{sub_byte-lt, xtimes-lt}

@@ -11,7 +11,7 @@ use Rattle.qe_aes.specs.Field.{xor_bytes}
 use Rattle.qe_aes.specs.KeySchedule.{word_at}
 use Rattle.qe_aes.specs.Steps.{add_round_key}
 use Rattle.qe_aes.specs.Words.{word_bytes, words_of, state_bytes, mixed_column, multiples}
-use Rattle.qe_aes.specs.Laws.{AreBytes}
+use Rattle.qe_base.specs.Bytes.{AreBytes}
 use Rattle.qe_aes.proofs.ByteLemmas.{AreBytes-nil, AreBytes-cons}
 
 -- a list of a known length, element by element

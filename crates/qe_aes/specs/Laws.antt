@@ -1,12 +1,9 @@
 -- What holds of the cipher and of the counter mode, besides their definitions.
-use Rattle.std.specs.Prelude.{◌≡◌, ℕ, ◌<◌, List, length, slice_index}
+use Rattle.std.specs.Prelude.{◌≡◌, ℕ, ◌<◌, List, length}
+use Rattle.qe_base.specs.Bytes.{AreBytes}
 use Rattle.qe_aes.specs.Field.{product, inverse}
 use Rattle.qe_aes.specs.Cipher.{aes_256, inv_aes_256}
 use Rattle.qe_aes.specs.CounterMode.{IsCounterMode, counter_mode}
-
--- the numbers of a list are bytes
-abbrev pub AreBytes : List ℕ → Type 0
-AreBytes bytes = (k : ℕ) → slice_index bytes k < 256
 
 -- 16 bytes
 pub record IsBlock (block : List ℕ) : Type 0 where

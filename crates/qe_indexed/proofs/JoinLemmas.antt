@@ -5,8 +5,8 @@ use Rattle.std.proofs.lemmas.List.{flat_map_more, take_more, take_at, drop_at, l
 use Rattle.std.proofs.lemmas.Bool.{cases_lt}
 use Rattle.std.proofs.Math.Seq.{take-add}
 use Rattle.qe_indexed.specs.declared.block.Block.{Block}
-use Rattle.qe_indexed.specs.Cut.{blocks_in}
-use Rattle.qe_indexed.specs.Layout.{joined, AreBlocks}
+use Rattle.qe_indexed.specs.Reading.{blocks_in}
+use Rattle.qe_indexed.specs.Spelling.{joined, AreBlocks}
 
 -- each block has 96 bytes
 abbrev pub AreLong : List Block → Type 0

@@ -4,16 +4,16 @@ use Rattle.std.specs.Prelude.{slice_get, slice_index}
 use Rattle.std.proofs.lemmas.Bool.{le-ltb, ltb-false, eqb-false, ne_eqb, cond-false}
 use Rattle.std.proofs.lemmas.Bool.Decides.{eqb_tells}
 use Rattle.std.proofs.lemmas.List.{drop_more, get_or-append_right}
-use Rattle.qe_aes.specs.Laws.{AreBytes}
+use Rattle.qe_base.specs.Bytes.{AreBytes}
 use Rattle.qe_indexed.specs.declared.fault.IndexedFault.{IndexedFault}
 use Rattle.qe_indexed.specs.declared.fault.IndexedFault.TheVariants.{Short, EdgeCountZero, LengthWrong}
 use Rattle.qe_indexed.specs.Parts.{Indexed}
-use Rattle.qe_indexed.specs.Layout.{first_byte, edge_count, joined, head_length, IsLaidOut, HasShape}
-use Rattle.qe_indexed.specs.Cut.{blocks_in}
-use Rattle.qe_indexed.specs.Refusal.{refusal_of, range_refusal}
-use Rattle.qe_indexed.proofs.RefusalLemmas.{refusal_of-14, refusal_of-15, refusal_of-other}
+use Rattle.qe_indexed.specs.Spelling.{first_byte, edge_count, joined, head_length, IsLaidOut, HasShape}
+use Rattle.qe_indexed.specs.Reading.{blocks_in}
+use Rattle.qe_indexed.specs.Faults.{refusal_of, range_refusal}
+use Rattle.qe_indexed.proofs.FaultLemmas.{refusal_of-14, refusal_of-15, refusal_of-other}
 use Rattle.qe_indexed.proofs.JoinLemmas.{AreBlocks-blocks_in}
-use Rattle.qe_indexed.proofs.LayoutLemmas.{tail_of, written-parts, length-written, IsLaidOut-cut}
+use Rattle.qe_indexed.proofs.SpellingLemmas.{tail_of, written-parts, length-written, IsLaidOut-cut}
 
 -- bytes that are long enough for their count
 none_refused : (range : Bool) (bytes : List ℕ) (count : ℕ) → Some (first_byte range) ≡ slice_get bytes 0 → head_length range + 16 + 96 * count ≤ length bytes

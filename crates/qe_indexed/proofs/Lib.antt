@@ -1,6 +1,6 @@
 pub mod BlockLemmas
-pub mod CutLemmas
-pub mod RefusalLemmas
+pub mod ReadingLemmas
+pub mod FaultLemmas
 pub mod JoinLemmas
-pub mod LayoutLemmas
+pub mod SpellingLemmas
 pub mod LawLemmas

@@ -1,39 +1,21 @@
 -- The blocks of an indexed value (FLE2TagAndEncryptedMetadataBlock of libmongocrypt). Blocks, keys and IVs are lists of bytes.
 use Rattle.std.specs.Prelude.{◌≡◌, ℕ, ◌^◌, ◌<◌, List, ◌++◌, length, take, drop, replicate}
-use Rattle.std.specs.Int.{w64, from_le_bytes, to_le_bytes}
-use Rattle.qe_aes.specs.CounterMode.{counter_mode}
+use Rattle.qe_seal.specs.Enciphered.{enciphered, deciphered, enciphered_pair, deciphered_pair}
 use Rattle.qe_tokens.specs.Tokens.{server_count_of, server_zeros_of, document_tag_of}
 
--- an IV, and the bytes in AES-256-CTR under it
-abbrev pub enciphered : List ℕ → List ℕ → List ℕ → List ℕ
-enciphered key iv plain = iv ++ counter_mode key iv plain
-
--- the bytes that stand behind an IV, deciphered
-abbrev pub deciphered : List ℕ → List ℕ → List ℕ
-deciphered key bytes = counter_mode key (take 16 bytes) (drop 16 bytes)
-
--- two numbers of 8 bytes, the lowest first
-unfoldable pub two_numbers : ℕ → ℕ → List ℕ
-two_numbers low high = to_le_bytes w64 low ++ to_le_bytes w64 high
-
-unfoldable pub low_number : List ℕ → ℕ
-low_number bytes = from_le_bytes w64 (take 8 bytes)
-
-unfoldable pub high_number : List ℕ → ℕ
-high_number bytes = from_le_bytes w64 (take 8 (drop 8 bytes))
-
+-- what the third part of a block enciphers
 unfoldable pub zeros : List ℕ
 zeros = replicate 16 0
 
 -- the count and the contention factor, the tag, and 16 zero bytes; `server` is the item's token of blocks, `edc` the key of tags
 unfoldable pub block_of : ℕ → ℕ → List ℕ → List ℕ → List ℕ → List ℕ → List ℕ
 block_of count contention edc server iv_count iv_zeros =
-    enciphered (server_count_of server) iv_count (two_numbers count contention)
+    enciphered_pair (server_count_of server) iv_count count contention
     ++ (document_tag_of edc count ++ enciphered (server_zeros_of server) iv_zeros zeros)
 
 -- what a block holds in its first, second and third 32 bytes
-unfoldable pub numbers_in : List ℕ → List ℕ → List ℕ
-numbers_in block server = deciphered (server_count_of server) (take 32 block)
+unfoldable pub numbers_in : List ℕ → List ℕ → ℕ × ℕ
+numbers_in block server = deciphered_pair (server_count_of server) (take 32 block)
 
 abbrev pub tag_in : List ℕ → List ℕ
 tag_in block = take 32 (drop 32 block)

@@ -1,14 +1,14 @@
--- What holds of layouts, besides their definitions.
+-- What holds of the spelling of values and of blocks, besides their definitions.
 use Rattle.std.specs.Prelude.{◌≡◌, ℕ, List, None}
-use Rattle.qe_aes.specs.Laws.{AreBytes}
+use Rattle.qe_base.specs.Bytes.{AreBytes}
 use Rattle.qe_tokens.specs.Tokens.{document_tag_of}
 use Rattle.qe_indexed.specs.Block.{tag_in, IsMade}
 use Rattle.qe_indexed.specs.Parts.{Indexed}
-use Rattle.qe_indexed.specs.Layout.{IsLaidOut}
-use Rattle.qe_indexed.specs.Refusal.{refusal_of}
+use Rattle.qe_indexed.specs.Spelling.{IsLaidOut}
+use Rattle.qe_indexed.specs.Faults.{refusal_of}
 
 -- bytes are one value at most, and a value exactly where nothing is refused
-pub record LayoutLaws : Type 0 where
+pub record SpellingLaws : Type 0 where
   pub one : (value other : Indexed) (bytes : List ℕ) → IsLaidOut value bytes → IsLaidOut other bytes → value ≡ other
   pub accepted : (value : Indexed) (bytes : List ℕ) → IsLaidOut value bytes → refusal_of bytes ≡ None
   pub found : (bytes : List ℕ) → AreBytes bytes → refusal_of bytes ≡ None → (value : Indexed) × IsLaidOut value bytes

@@ -1,6 +1,6 @@
 pub mod Block
 pub mod Parts
-pub mod Layout
-pub mod Refusal
-pub mod Cut
+pub mod Spelling
+pub mod Faults
+pub mod Reading
 pub mod Laws

@@ -1,10 +1,10 @@
-//! Laws of layouts and blocks, each as the contract of a function that does nothing.
+//! Laws of values and blocks, each as the contract of a function that does nothing.
 
-ghost use Rattle.qe_indexed.specs.Laws.{LayoutLaws, HasMadeTag};
+ghost use Rattle.qe_indexed.specs.Laws.{SpellingLaws, HasMadeTag};
 
 /// Bytes are laid out as one value at most, and as one exactly where nothing is refused.
 pub fn bytes_are_one_value()
-    ensures { LayoutLaws }
+    ensures { SpellingLaws }
 {}
 
 /// The tag of a block that `make_block` makes is the document's tag for the count.

@@ -1,5 +1,11 @@
 //! Indexed values of Queryable Encryption, version 2: what a server stores in the place of a plain value.
 //!
+//! ```
+//! let value = IndexedValue::read(rt.alloc(), &bytes)?; // or the first refusal
+//! let tag = value.tag(0); // by which a search finds the document
+//! let (count, contention, is_own) = open_block(value.block(0), &server);
+//! ```
+//!
 //! An `IndexedValue` is laid out as libmongocrypt's IndexedEqualityEncryptedValueV2 (first byte 14) or
 //! IndexedRangeEncryptedValueV2 (first byte 15): a head, the server-encrypted value, and blocks of 96 bytes. Each
 //! block has the tag by which a search finds the document, between its number and its zeros under the item's tokens.
@@ -9,10 +15,7 @@
 mod block;
 mod fault;
 mod laws;
-mod pieces;
 mod reading;
-#[cfg(test)]
-mod tests;
 mod value;
 mod writing;
 

@@ -1,10 +1,11 @@
 //! An indexed value from bytes.
 
-ghost use Rattle.std.specs.Prelude.{◌≡◌, ◌%◌, ◌<◌, length, take, slice_index, IfOk, IfErr};
+ghost use Rattle.std.specs.Prelude.{◌≡◌, ◌%◌, ◌<◌, length, slice_index, true, false, Ok, IfOk};
+ghost use Rattle.qe_base.specs.Answers.{Answers};
 ghost use Rattle.qe_indexed.specs.Parts.{Indexed};
-ghost use Rattle.qe_indexed.specs.Layout.{IsLaidOut, HasShape, AreBlocks, head_length};
-ghost use Rattle.qe_indexed.specs.Cut.{indexed_at, Answers};
-ghost use Rattle.qe_indexed.specs.Refusal.{refusal_of, equality_refusal, range_refusal, Checks};
+ghost use Rattle.qe_indexed.specs.Spelling.{IsLaidOut, HasShape, AreBlocks, head_length};
+ghost use Rattle.qe_indexed.specs.Reading.{indexed_at, kind_and_count, shape_at};
+ghost use Rattle.qe_indexed.specs.Faults.{equality_refusal, range_refusal, kept_fault, unless_refused};
 
 use crate::block::{BLOCK_LEN, Block};
 use crate::fault::IndexedFault;
@@ -35,10 +36,8 @@ impl IndexedValue {
     /// first byte, the least length, the edge count, the length.
     pub fn read(alloc: Global, bytes: &[u8]) -> Result<IndexedValue, IndexedFault>
         ensures found { IfOk result (λ value. IsLaidOut value bytes.now) }
-        ensures only { (value : Indexed) → IsLaidOut value bytes.now → IfErr result (λ e. e ≡ IndexedFault.NoMemory) }
-        ensures same { (value : Indexed) → IsLaidOut value bytes.now → IfOk result (λ read. read ≡ value) }
-        ensures first { Checks result (refusal_of bytes.now) }
-        ensures exact { Answers result (indexed_at bytes.now) }
+        ensures only { (value : Indexed) → IsLaidOut value bytes.now → Answers (λ read. read) kept_fault result (Ok value) }
+        ensures exact { Answers (λ value. value) kept_fault result (indexed_at bytes.now) }
     {
         let shape = shape_of(bytes)?;
         let value = value_of(alloc, bytes, shape)?;
@@ -48,7 +47,7 @@ impl IndexedValue {
 
 fn shape_of(bytes: &[u8]) -> Result<Shape, IndexedFault>
     ensures shape { IfOk result (λ shape. HasShape shape.range shape.count bytes.now) }
-    ensures first { Checks result (refusal_of bytes.now) }
+    ensures exact { Answers kind_and_count kept_fault result (shape_at bytes.now) }
 {
     match bytes.first() {
         None => Err(IndexedFault::Short),
@@ -62,7 +61,7 @@ fn equality_shape(bytes: &[u8]) -> Result<Shape, IndexedFault>
     requires some { 0 < length bytes.now }
     requires first { slice_index bytes.now 0 ≡ 14 }
     ensures shape { IfOk result (λ shape. HasShape shape.range shape.count bytes.now) }
-    ensures first { Checks result (equality_refusal (length bytes.now)) }
+    ensures exact { Answers kind_and_count kept_fault result (unless_refused (equality_refusal (length bytes.now)) (false, 1)) }
 {
     if bytes.len() < SHORTEST {
         return Err(IndexedFault::Short);
@@ -77,7 +76,8 @@ fn range_shape(bytes: &[u8]) -> Result<Shape, IndexedFault>
     requires some { 0 < length bytes.now }
     requires first { slice_index bytes.now 0 ≡ 15 }
     ensures shape { IfOk result (λ shape. HasShape shape.range shape.count bytes.now) }
-    ensures first { Checks result (range_refusal (length bytes.now) (slice_index bytes.now 18)) }
+    ensures exact { let count = slice_index bytes.now 18 in
+        Answers kind_and_count kept_fault result (unless_refused (range_refusal (length bytes.now) count) (true, count)) }
 {
     if bytes.len() < RANGE_HEAD_LEN {
         return Err(IndexedFault::Short);

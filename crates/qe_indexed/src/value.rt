@@ -3,7 +3,7 @@
 ghost use Rattle.std.specs.Prelude.{◌≡◌, ◌<◌, length, map, option_map, slice_get, Some, IfOk};
 ghost use Rattle.qe_indexed.specs.Block.{tag_in};
 
-use crate::block::Block;
+use crate::block::{Block, TAG_AT, ZEROS_AT};
 use qe_base::{Bytes, Duplicate, Listing, NoMemory, Tags};
 use std::alloc::Global;
 use std::marker::Model;
@@ -84,7 +84,7 @@ impl Duplicate for IndexedValue {
 fn tag_of(block: &Block) -> &[u8; 32]
     ensures { result.now ≡ tag_in block.now.0 }
 {
-    match <&[u8; 32]>::try_from(&block.0[32..64]) {
+    match <&[u8; 32]>::try_from(&block.0[TAG_AT..ZEROS_AT]) {
         Ok(tag) => tag,
         Err(_) => unreachable!(),
     }

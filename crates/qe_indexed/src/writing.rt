@@ -2,12 +2,11 @@
 
 ghost use Rattle.std.specs.Prelude.{◌≡◌, ◌≤◌, ◌++◌, length, All, OnOk, IfOk};
 ghost use Rattle.qe_indexed.specs.Parts.{IsWithin};
-ghost use Rattle.qe_indexed.specs.Layout.{head_of, joined, IsLaidOut};
+ghost use Rattle.qe_indexed.specs.Spelling.{head_of, joined, IsLaidOut};
 
 use crate::block::Block;
-use crate::pieces::bytes_of;
 use crate::value::IndexedValue;
-use qe_base::{Bytes, NoMemory};
+use qe_base::{Bytes, NoMemory, bytes_of};
 use std::alloc::Global;
 
 /// The first byte of an equality value.
@@ -32,7 +31,7 @@ impl IndexedValue {
 }
 
 // What stands before the server-encrypted value.
-#[tactic(auto, unfolding(crate::specs::Layout::head_of))]
+#[tactic(auto, unfolding(crate::specs::Spelling::head_of))]
 fn head(alloc: Global, value: &IndexedValue) -> Result<Bytes, NoMemory>
     ensures bytes { IfOk result (λ bytes. bytes ≡ head_of value.now.range value.now.key_id value.now.value_kind (length value.now.blocks)) }
     ensures long { IfOk result (λ _. length value.now.key_id ≡ 16) }

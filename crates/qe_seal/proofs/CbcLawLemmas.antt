@@ -1,7 +1,8 @@
 -- Encryption and decryption undo each other.
 use Rattle.std.proofs.Common.{◌≡◌, ℕ, ◌*◌, ◌/◌, ◌%◌, ◌<◌, true, ◌==◌, not, List, length, Ok, Err, ap, sym, ◌∙◌, arith, inl, inr, eq-eqb}
 use Rattle.std.proofs.lemmas.Bool.{cases_Bool, and_parts, and_from, not-true, not_from_false, eqb-true, eqb-false, ne_eqb, cond-true, cond-false}
-use Rattle.qe_aes.specs.Laws.{AreBytes, IsBlock}
+use Rattle.qe_base.specs.Bytes.{AreBytes}
+use Rattle.qe_aes.specs.Laws.{IsBlock}
 use Rattle.qe_seal.specs.declared.cbc.CbcFault.TheVariants.{BadLength}
 use Rattle.qe_seal.specs.Cbc.{IsCbc, cbc_cipher, cbc_plain, padded_bytes, unpadded_bytes, are_blocks, cbc_encryption, cbc_decryption}
 use Rattle.qe_seal.proofs.CbcLemmas.{length-padded_bytes}

@@ -18,9 +18,12 @@ deciphered-enciphered key iv plain iv_long =
     ∙ ap (counter_mode key iv) (drop_at iv cipher 16 iv_long)
     ∙ counter_mode-counter_mode key iv plain
 
-pub length-pair_bytes : (first second : ℕ) → length (pair_bytes first second) ≡ 16
+length-pair_bytes : (first second : ℕ) → length (pair_bytes first second) ≡ 16
 unfolding pair_bytes
 length-pair_bytes first second = refl
+
+pub length-enciphered_pair : (key iv : List ℕ) (first second : ℕ) → length iv ≡ 16 → length (enciphered_pair key iv first second) ≡ 32
+length-enciphered_pair key iv first second iv_long = length-enciphered key iv (pair_bytes first second) iv_long (length-pair_bytes first second)
 
 pair_in-pair_bytes : (first second : ℕ) → first < 2 ^ 64 → second < 2 ^ 64 → pair_in (pair_bytes first second) ≡ (first, second)
 unfolding pair_bytes pair_in

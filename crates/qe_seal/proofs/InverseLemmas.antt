@@ -3,7 +3,8 @@ use Rattle.std.proofs.Common.{◌≡◌, ℕ, zero, suc, ◌*◌, ◌≤◌, Lis
 use Rattle.std.proofs.lemmas.List.{take_at, drop_at, take-append-drop, length-take-le}
 use Rattle.qe_aes.specs.Field.{xor_bytes}
 use Rattle.qe_aes.specs.Cipher.{aes_256, inv_aes_256}
-use Rattle.qe_aes.specs.Laws.{AreBytes, IsBlock}
+use Rattle.qe_base.specs.Bytes.{AreBytes}
+use Rattle.qe_aes.specs.Laws.{IsBlock}
 use Rattle.qe_aes.proofs.ByteLemmas.{AreBytes-take, AreBytes-drop, AreBytes-xor_bytes}
 use Rattle.qe_aes.proofs.XorLemmas.{length-xor_bytes, xor_bytes-xor_bytes}
 use Rattle.qe_aes.proofs.RoundLemmas.{IsBlock-aes_256, IsBlock-inv_aes_256, inv_aes_256-aes_256, aes_256-inv_aes_256}

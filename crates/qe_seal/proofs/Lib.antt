@@ -1,3 +1,4 @@
+pub mod ArrayLemmas
 pub mod CbcLemmas
 pub mod RelationLemmas
 pub mod InverseLemmas

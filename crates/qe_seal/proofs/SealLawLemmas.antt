@@ -5,7 +5,8 @@ use Rattle.std.proofs.lemmas.Bool.{cases_Bool, ltb-false, cond-true}
 use Rattle.std.proofs.lemmas.Slice.Eq.{bytes_eq-Decides}
 use Rattle.std.proofs.lemmas.List.{take_at, drop_at, take-append-drop, length-take-le}
 use Rattle.sha2.proofs.Facts256.{length-sha256}
-use Rattle.qe_aes.specs.Laws.{AreBytes, IsBlock}
+use Rattle.qe_base.specs.Bytes.{AreBytes}
+use Rattle.qe_aes.specs.Laws.{IsBlock}
 use Rattle.qe_aes.proofs.ByteLemmas.{AreBytes-take, AreBytes-drop}
 use Rattle.qe_seal.specs.Hmac.{hmac_sha256}
 use Rattle.qe_seal.specs.Cbc.{padded_bytes, cbc_encryption, cbc_decryption}

@@ -1,5 +1,5 @@
 -- The CBC mode of NIST SP 800-38A under AES-256, with the padding of RFC 5652.
-use Rattle.std.specs.Prelude.{◌≡◌, ℕ, zero, suc, ◌-◌, ◌*◌, ◌/◌, ◌%◌, ◌<◌, List, [], ◌++◌, length, take, drop, replicate, slice_index, Result, Ok, Err, ◌==◌, ◌&&◌, Bool, not, nat_le, if◌then◌else◌}
+use Rattle.std.specs.Prelude.{◌≡◌, ℕ, zero, suc, ◌-◌, ◌*◌, ◌/◌, ◌%◌, ◌<◌, List, [], ◌++◌, length, take, drop, replicate, slice_index, Option, Some, None, Result, Ok, Err, ◌==◌, ◌&&◌, Bool, not, nat_le, if◌then◌else◌}
 use Rattle.std.specs.List.{list_all}
 use Rattle.qe_aes.specs.Field.{xor_bytes}
 use Rattle.qe_aes.specs.Cipher.{aes_256, inv_aes_256}
@@ -67,7 +67,7 @@ unfoldable pub cbc_decryption : List ℕ → List ℕ → List ℕ → Result (L
 cbc_decryption key iv bytes =
     if are_blocks bytes then unpadded_bytes (cbc_plain key iv (length bytes / 16) bytes) else Err BadLength
 
--- the answer is the one that is due, or memory was short
-abbrev pub AnswersCbc : Result (List ℕ) CbcFault → Result (List ℕ) CbcFault → Type 0
-AnswersCbc (Err NoMemory) due = Unit {0}
-AnswersCbc answer due = answer ≡ due
+-- a refusal of another cause than want of memory
+abbrev pub kept_fault : CbcFault → Option CbcFault
+kept_fault NoMemory = None
+kept_fault fault = Some fault

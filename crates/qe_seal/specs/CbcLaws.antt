@@ -1,6 +1,7 @@
 -- What holds of CBC, besides its definitions.
 use Rattle.std.specs.Prelude.{◌≡◌, ℕ, ◌/◌, ◌%◌, List, length, Ok}
-use Rattle.qe_aes.specs.Laws.{AreBytes, IsBlock}
+use Rattle.qe_base.specs.Bytes.{AreBytes}
+use Rattle.qe_aes.specs.Laws.{IsBlock}
 use Rattle.qe_seal.specs.Cbc.{IsCbc, cbc_plain, padded_bytes, cbc_encryption, cbc_decryption}
 
 -- the functions make the only lists that the standard's relation allows, and undo each other

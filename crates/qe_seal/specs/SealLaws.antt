@@ -1,6 +1,7 @@
 -- What holds of sealed values, besides their definitions.
 use Rattle.std.specs.Prelude.{◌≡◌, ℕ, List, Ok}
-use Rattle.qe_aes.specs.Laws.{AreBytes, IsBlock}
+use Rattle.qe_base.specs.Bytes.{AreBytes}
+use Rattle.qe_aes.specs.Laws.{IsBlock}
 use Rattle.qe_seal.specs.Sealed.{Seals, opened_value}
 
 -- a value opens to the plain bytes exactly where it seals them under some IV

@@ -1,6 +1,6 @@
 -- Sealed values: bytes that are encrypted and authenticated under a key of 96 bytes, whose first 32 are the
 -- encryption key and the next 32 the MAC key. They are put together as in RFC 7518, 5.2.2.1, with the whole MAC.
-use Rattle.std.specs.Prelude.{◌≡◌, ℕ, ◌-◌, ◌*◌, List, ◌++◌, length, take, drop, Result, Ok, Err, nat_lt, if◌then◌else◌}
+use Rattle.std.specs.Prelude.{◌≡◌, ℕ, ◌-◌, ◌*◌, List, ◌++◌, length, take, drop, Option, Some, None, Result, Ok, Err, nat_lt, if◌then◌else◌}
 use Rattle.std.specs.Int.{w64, to_be_bytes}
 use Rattle.std.specs.Str.{bytes_eq}
 use Rattle.qe_seal.specs.Hmac.{hmac_sha256}
@@ -54,7 +54,7 @@ opened_value key id bytes =
     then seal_answer (cbc_decryption (encryption_key key) (take 16 (body_of bytes)) (drop 16 (body_of bytes)))
     else Err (MacDiffers (seal_mac key id (body_of bytes)) (stored_mac bytes)))
 
--- the answer is the one that is due, or memory was short
-abbrev pub AnswersSeal : Result (List ℕ) SealFault → Result (List ℕ) SealFault → Type 0
-AnswersSeal (Err NoMemory) due = Unit {0}
-AnswersSeal answer due = answer ≡ due
+-- a refusal of another cause than want of memory
+abbrev pub kept_fault : SealFault → Option SealFault
+kept_fault NoMemory = None
+kept_fault fault = Some fault

@@ -1,5 +1,8 @@
+//! CBC with padding: calls and refusals.
+
 ghost use Rattle.std.specs.Prelude.{◌≡◌, IfOk};
-ghost use Rattle.qe_seal.specs.Cbc.{cbc_encryption, cbc_decryption, AnswersCbc};
+ghost use Rattle.qe_base.specs.Answers.{Answers};
+ghost use Rattle.qe_seal.specs.Cbc.{cbc_encryption, cbc_decryption, kept_fault};
 
 use crate::blocks::{BLOCK_LEN, deciphered, push_cipher};
 use crate::padding::unpadded;
@@ -46,7 +49,7 @@ pub fn cbc_decrypt(
     iv: &[u8; 16],
     bytes: &[u8],
 ) -> Result<Bytes, CbcFault>
-    ensures { AnswersCbc result (cbc_decryption key.now iv.now bytes.now) }
+    ensures { Answers (λ plain. plain) kept_fault result (cbc_decryption key.now iv.now bytes.now) }
 {
     if bytes.is_empty() || bytes.len() % BLOCK_LEN != 0 {
         return Err(CbcFault::BadLength);

@@ -3,9 +3,11 @@
 ghost use Rattle.std.specs.Prelude.{◌≡◌, ◌++◌};
 ghost use Rattle.qe_seal.specs.Enciphered.{enciphered, deciphered, pair_bytes, pair_in, enciphered_pair, deciphered_pair};
 
-use crate::pieces::write_front;
 use qe_aes::ctr;
-use qe_base::array_at;
+use qe_base::{array_at, write_at};
+
+/// The length of an IV, in bytes.
+const IV_LEN: usize = 16;
 
 /// The length of an IV with 16 bytes behind it.
 const ENCIPHERED_LEN: usize = 32;
@@ -20,8 +22,8 @@ pub fn encipher(key: &[u8; 32], iv: &[u8; 16], plain: &[u8; 16]) -> [u8; 32]
     let mut cipher = *plain;
     ctr(key, iv, &mut cipher);
     let mut bytes = [0; ENCIPHERED_LEN];
-    write_front(&mut bytes, iv);
-    write_front(&mut bytes[iv.len()..], &cipher);
+    write_at(&mut bytes, 0, iv);
+    write_at(&mut bytes, IV_LEN, &cipher);
     bytes
 }
 
@@ -30,7 +32,7 @@ pub fn decipher(key: &[u8; 32], bytes: &[u8; 32]) -> [u8; 16]
     ensures { result ≡ deciphered key.now bytes.now }
 {
     let iv = array_at(bytes, 0);
-    let mut plain = array_at(bytes, 16);
+    let mut plain = array_at(bytes, IV_LEN);
     ctr(key, &iv, &mut plain);
     plain
 }
@@ -55,8 +57,8 @@ fn pair_bytes(first: u64, second: u64) -> [u8; 16]
     ensures { result ≡ pair_bytes first second }
 {
     let mut bytes = [0; 16];
-    write_front(&mut bytes, &first.to_le_bytes());
-    write_front(&mut bytes[NUMBER_LEN..], &second.to_le_bytes());
+    write_at(&mut bytes, 0, &first.to_le_bytes());
+    write_at(&mut bytes, NUMBER_LEN, &second.to_le_bytes());
     bytes
 }
 

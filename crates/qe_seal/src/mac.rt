@@ -5,7 +5,7 @@ ghost use Rattle.sha2.specs.Sha256.{sha256};
 ghost use Rattle.sha2.specs.Hashers.{Holds256};
 ghost use Rattle.qe_seal.specs.Hmac.{key_block, padded_block, hmac_sha256, prf1_of, prf2_of};
 
-use crate::pieces::write_front;
+use qe_base::write_at;
 use sha2::{Digest, Sha256};
 
 /// The length of SHA-256's block, in bytes.
@@ -130,7 +130,7 @@ fn zero_padded(bytes: &[u8]) -> [u8; 64]
     ensures { result ≡ bytes.now ++ replicate (64 - length bytes.now) 0 }
 {
     let mut block = [0u8; BLOCK_LEN];
-    write_front(&mut block, bytes);
+    write_at(&mut block, 0, bytes);
     block
 }
 

@@ -2,12 +2,12 @@
 
 ghost use Rattle.std.specs.Prelude.{◌≡◌, ◌*◌, ◌/◌, ◌==◌, length, drop};
 ghost use Rattle.std.specs.List.{list_all};
-ghost use Rattle.qe_seal.specs.Cbc.{padded_bytes, last_byte, padding_start, ends_in_padding, unpadded_bytes, AnswersCbc};
+ghost use Rattle.qe_base.specs.Answers.{Answers};
+ghost use Rattle.qe_seal.specs.Cbc.{padded_bytes, last_byte, padding_start, ends_in_padding, unpadded_bytes, kept_fault};
 
 use crate::blocks::BLOCK_LEN;
 use crate::cbc::CbcFault;
-use crate::pieces::write_front;
-use qe_base::Bytes;
+use qe_base::{Bytes, write_at};
 use std::alloc::Global;
 
 /// The last block of the padded bytes.
@@ -17,14 +17,14 @@ pub(crate) fn last_block(plain: &[u8]) -> [u8; 16]
 {
     let rest = &plain[plain.len() / BLOCK_LEN * BLOCK_LEN..];
     let mut block = [(BLOCK_LEN - rest.len()) as u8; BLOCK_LEN];
-    write_front(&mut block, rest);
+    write_at(&mut block, 0, rest);
     block
 }
 
 /// The bytes without their padding.
 #[tactic(auto, unfolding(crate::specs::Cbc::unpadded_bytes))]
 pub(crate) fn unpadded(alloc: Global, mut bytes: Vec<u8>) -> Result<Bytes, CbcFault>
-    ensures { AnswersCbc result (unpadded_bytes bytes.items) }
+    ensures { Answers (λ plain. plain) kept_fault result (unpadded_bytes bytes.items) }
 {
     if !ends_in_padding(&bytes) {
         return Err(CbcFault::BadPadding);

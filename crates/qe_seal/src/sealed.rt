@@ -1,6 +1,9 @@
+//! Sealed values: bytes that are encrypted and authenticated with an id.
+
 ghost use Rattle.std.specs.Prelude.{◌≡◌, ◌≤◌, length, take, drop, IfOk};
+ghost use Rattle.qe_base.specs.Answers.{Answers};
 ghost use Rattle.qe_seal.specs.Cbc.{cbc_decryption};
-ghost use Rattle.qe_seal.specs.Sealed.{encryption_key, seal_mac, Seals, seal_answer, opened_value, AnswersSeal};
+ghost use Rattle.qe_seal.specs.Sealed.{encryption_key, seal_mac, Seals, seal_answer, opened_value, kept_fault};
 
 use crate::blocks::{BLOCK_LEN, push_cipher};
 use crate::cbc::{CbcFault, cbc_decrypt};
@@ -81,7 +84,7 @@ pub fn unseal(
     id: &[u8; 16],
     sealed: &[u8],
 ) -> Result<Bytes, SealFault>
-    ensures { AnswersSeal result (opened_value key.now id.now sealed.now) }
+    ensures { Answers (λ plain. plain) kept_fault result (opened_value key.now id.now sealed.now) }
 {
     if sealed.len() < SHORTEST {
         return Err(SealFault::TooShort);
@@ -98,7 +101,7 @@ pub fn unseal(
 // The plain bytes of an IV and a cipher.
 fn opened(alloc: Global, key: &[u8; 96], body: &[u8]) -> Result<Bytes, SealFault>
     requires { 16 ≤ length body.now }
-    ensures { AnswersSeal result (seal_answer (cbc_decryption (encryption_key key.now) (take 16 body.now) (drop 16 body.now))) }
+    ensures { Answers (λ plain. plain) kept_fault result (seal_answer (cbc_decryption (encryption_key key.now) (take 16 body.now) (drop 16 body.now))) }
 {
     let iv = array_at(body, 0);
     let plain = cbc_decrypt(alloc, &encryption_key(key), &iv, &body[BLOCK_LEN..])?;

@@ -1,11 +1,11 @@
 -- The line that shows a blob: its parts by name, or the first refusal and its path.
-use Rattle.std.specs.Prelude.{◌≡◌, ◌⊎◌, ℕ, pos, List, ◌++◌, slice_index, codes, ◌==◌, Bool, true, false, if◌then◌else◌, Option, Some}
+use Rattle.std.specs.Prelude.{◌≡◌, ◌⊎◌, ℕ, pos, List, ◌++◌, slice_index, codes, ◌==◌, Bool, true, false, if◌then◌else◌, Option, Some, Result, Err}
 use Rattle.std.specs.Fmt.{decimal}
 use Rattle.qe_indexed.specs.declared.block.Block.{Block}
 use Rattle.qe_indexed.specs.declared.fault.IndexedFault.{IndexedFault}
 use Rattle.qe_indexed.specs.Parts.{Indexed}
-use Rattle.qe_indexed.specs.Layout.{IsLaidOut}
-use Rattle.qe_indexed.specs.Refusal.{refusal_of}
+use Rattle.qe_indexed.specs.Spelling.{IsLaidOut}
+use Rattle.qe_indexed.specs.Reading.{indexed_at}
 use Rattle.qe_payload.specs.Equal.{IsEqualBlob, equal_blob_refusal}
 use Rattle.qe_payload.specs.Insert.{IsInsertBlob, insert_blob_refusal}
 use Rattle.qe_payload.specs.Range.{IsRangeBlob, range_blob_refusal}
@@ -48,9 +48,9 @@ pub record ShowsRefusal (due : Option Refusal) (line : List ℕ) : Type 0 where
   pub printed : line ≡ refusal_line refusal.path (kind_text refusal.kind)
 
 -- an indexed value's path is the whole
-pub record ShowsFault (due : Option IndexedFault) (line : List ℕ) : Type 0 where
+pub record ShowsFault (due : Result Indexed IndexedFault) (line : List ℕ) : Type 0 where
   pub fault : IndexedFault
-  pub is_due : due ≡ Some fault
+  pub is_due : due ≡ Err fault
   pub printed : line ≡ refusal_line (codes ".") (indexed_text fault)
 
 -- the first byte says what a blob is
@@ -63,7 +63,7 @@ abbrev pub ShowsAs : Form → List ℕ → List ℕ → Type 0
 ShowsAs form.Insert blob line = ShowsParts IsInsertBlob insert_line blob line ⊎ ShowsRefusal (insert_blob_refusal blob) line
 ShowsAs form.Equal blob line = ShowsParts IsEqualBlob equal_line blob line ⊎ ShowsRefusal (equal_blob_refusal blob) line
 ShowsAs form.Range blob line = ShowsParts IsRangeBlob range_line blob line ⊎ ShowsRefusal (range_blob_refusal blob) line
-ShowsAs form.Indexed blob line = ShowsParts IsLaidOut indexed_line blob line ⊎ ShowsFault (refusal_of blob) line
+ShowsAs form.Indexed blob line = ShowsParts IsLaidOut indexed_line blob line ⊎ ShowsFault (indexed_at blob) line
 
 abbrev pub ShowsBlob : List ℕ → List ℕ → Type 0
 ShowsBlob blob line = ShowsAs (form_of blob) blob line

@@ -1,3 +1,5 @@
+//! The identifiers of rows and the tags of documents.
+
 ghost use Rattle.std.specs.Prelude.{◌≡◌};
 ghost use Rattle.qe_tokens.specs.Tokens.{position_of, anchor_of, document_tag_of};
 

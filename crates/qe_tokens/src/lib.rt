@@ -1,12 +1,16 @@
 //! The token tree of Queryable Encryption, and the identifiers of rows and tags that grow from it.
 //!
+//! ```
+//! let level = collections(&root_key(&data_key));
+//! let contention = esc_contention(&esc_derived(&esc(&level), &item), 0);
+//! let id = position_id(&esc_tag(&contention), 1); // of the row that the item's first insert adds
+//! ```
+//!
 //! Each call is one HMAC, equal to its line of `specs/Tokens.antt`, and takes no memory. Words and labels say what
 //! an identifier stands for. Read: tokens, identifiers, words.
 #![tactic(auto)]
 
 mod identifiers;
-#[cfg(test)]
-mod tests;
 mod tokens;
 mod words;
 

@@ -1,3 +1,6 @@
+//! The tokens, each with libmongocrypt's name. There EDC is the collection of documents, ESC that of position and
+//! anchor rows, and ECOC that of the rows which a compaction or cleanup reads.
+
 ghost use Rattle.std.specs.Prelude.{◌≡◌};
 ghost use Rattle.qe_tokens.specs.Tokens.{root_key_of, collections_of, server_token_of, server_cipher_of};
 ghost use Rattle.qe_tokens.specs.Tokens.{edc_of, esc_of, ecoc_of, edc_derived_of, esc_derived_of, server_derived_of};
@@ -6,71 +9,74 @@ ghost use Rattle.qe_tokens.specs.Tokens.{server_count_of, server_zeros_of};
 
 use qe_seal::{hmac, prf1};
 
-/// Bytes 64 to 95 of a data key.
+/// Bytes 64 to 95 of a data key. Libmongocrypt's `TokenKey`.
 #[derive(Clone, Copy, Debug, PartialEq, Eq)]
 pub struct RootKey(pub [u8; 32]);
 
-/// The root of the collections' tokens.
+/// The root of the collections' tokens. Libmongocrypt's `CollectionsLevel1Token`.
 #[derive(Clone, Copy, Debug, PartialEq, Eq)]
 pub struct CollectionsLevel1(pub [u8; 32]);
 
-/// The root of the tokens of blocks.
+/// The root of the tokens of blocks. Libmongocrypt's `ServerTokenDerivationLevel1Token`.
 #[derive(Clone, Copy, Debug, PartialEq, Eq)]
 pub struct ServerTokenLevel1(pub [u8; 32]);
 
-/// The key of the server-encrypted value.
+/// The key of the server-encrypted value. Libmongocrypt's `ServerDataEncryptionLevel1Token`.
 #[derive(Clone, Copy, Debug, PartialEq, Eq)]
 pub struct ServerDataLevel1(pub [u8; 32]);
 
-/// The root of the tokens of documents.
+/// The root of the tokens of documents. Libmongocrypt's `EDCToken`.
 #[derive(Clone, Copy, Debug, PartialEq, Eq)]
 pub struct EdcToken(pub [u8; 32]);
 
-/// The root of the tokens of position and anchor rows.
+/// The root of the tokens of position and anchor rows. Libmongocrypt's `ESCToken`.
 #[derive(Clone, Copy, Debug, PartialEq, Eq)]
 pub struct EscToken(pub [u8; 32]);
 
-/// The key of the rows that a compaction or cleanup reads.
+/// The key of the rows that a compaction or cleanup reads. Libmongocrypt's `ECOCToken`.
 #[derive(Clone, Copy, Debug, PartialEq, Eq)]
 pub struct EcocToken(pub [u8; 32]);
 
-/// An item's token of documents.
+/// An item's token of documents. Libmongocrypt's `EDCDerivedFromDataToken`.
 #[derive(Clone, Copy, Debug, PartialEq, Eq)]
 pub struct EdcDerived(pub [u8; 32]);
 
-/// An item's token of rows.
+/// An item's token of rows. Libmongocrypt's `ESCDerivedFromDataToken`.
 #[derive(Clone, Copy, Debug, PartialEq, Eq)]
 pub struct EscDerived(pub [u8; 32]);
 
 /// An item's token of documents under one contention factor.
+/// Libmongocrypt's `EDCDerivedFromDataTokenAndContentionFactor`.
 #[derive(Clone, Copy, Debug, PartialEq, Eq)]
 pub struct EdcContention(pub [u8; 32]);
 
 /// An item's token of rows under one contention factor.
+/// Libmongocrypt's `ESCDerivedFromDataTokenAndContentionFactor`.
 #[derive(Clone, Copy, Debug, PartialEq, Eq)]
 pub struct EscContention(pub [u8; 32]);
 
-/// The key of document tags.
+/// The key of document tags. Libmongocrypt's `EDCTwiceDerivedToken`.
 #[derive(Clone, Copy, Debug, PartialEq, Eq)]
 pub struct EdcTwice(pub [u8; 32]);
 
-/// The key of the identifiers of rows.
+/// The key of the identifiers of rows. Libmongocrypt's `ESCTwiceDerivedTagToken`.
 #[derive(Clone, Copy, Debug, PartialEq, Eq)]
 pub struct EscTag(pub [u8; 32]);
 
-/// The key of the values of anchors.
+/// The key of the values of anchors. Libmongocrypt's `ESCTwiceDerivedValueToken`.
 #[derive(Clone, Copy, Debug, PartialEq, Eq)]
 pub struct EscValue(pub [u8; 32]);
 
-/// An item's token of blocks.
+/// An item's token of blocks. Libmongocrypt's `ServerDerivedFromDataToken`.
 #[derive(Clone, Copy, Debug, PartialEq, Eq)]
 pub struct ServerDerived(pub [u8; 32]);
 
 /// The key of a block's count and contention factor.
+/// Libmongocrypt's `ServerCountAndContentionFactorEncryptionToken`.
 #[derive(Clone, Copy, Debug, PartialEq, Eq)]
 pub struct ServerCount(pub [u8; 32]);
 
-/// The key of a block's zeros.
+/// The key of a block's zeros. Libmongocrypt's `ServerZerosEncryptionToken`.
 #[derive(Clone, Copy, Debug, PartialEq, Eq)]
 pub struct ServerZeros(pub [u8; 32]);
 

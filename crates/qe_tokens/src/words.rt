@@ -1,3 +1,5 @@
+//! Words and labels: what an identifier stands for.
+
 ghost use Rattle.std.specs.Prelude.{◌≡◌, IfOk};
 
 use qe_base::{Bytes, Duplicate, NoMemory};
@@ -20,16 +22,22 @@ pub enum Word {
 /// What an identifier names: a position row, an anchor row (0 is the null anchor), or a document's tag.
 #[derive(Clone, Copy, Debug, PartialEq, Eq)]
 pub enum LabelKind {
+    /// A row for each time that a word was indexed, from 1.
     Position,
+    /// A row that a compaction leaves, from 1; 0 is the null anchor, which a cleanup leaves.
     Anchor,
+    /// The tag of a document, from 1.
     Tag,
 }
 
 /// One numbered thing of a word that has an identifier.
 #[derive(Drop)]
 pub struct Label {
+    /// What it names.
     pub kind: LabelKind,
+    /// Whose it is.
     pub word: Word,
+    /// Which one of the word's.
     pub number: u64,
 }
 

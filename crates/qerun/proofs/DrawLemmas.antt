@@ -1,7 +1,8 @@
 -- The bytes of random words.
 use Rattle.std.proofs.Common.{◌≡◌, length, ◌<◌, ◌+◌, ◌/◌, ◌%◌, ℕ, List, [], ◌∷◌, ◌++◌, get_or, refl, arith}
 use Rattle.std.specs.Int.{w32, to_le_bytes}
-use Rattle.qe_aes.specs.Laws.{AreBytes, IsBlock}
+use Rattle.qe_base.specs.Bytes.{AreBytes}
+use Rattle.qe_aes.specs.Laws.{IsBlock}
 use Rattle.qe_aes.proofs.ByteLemmas.{AreBytes-nil, AreBytes-cons, AreBytes-append}
 use Rattle.rand_chacha.specs.ChaCha.{word_at, key_of}
 use Rattle.qerun.specs.Draws.{draw_at, iv_at, server_ivs_at}

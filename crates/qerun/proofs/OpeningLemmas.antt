@@ -2,16 +2,19 @@
 use Rattle.std.proofs.Common.{◌≡◌, Bool, true, false, not, ℕ, ℤ, List, [], ◌∷◌, ◌++◌, take, drop, true, false, Result, Ok, Err, refl, sym, ap, append_assoc, append-nil}
 use Rattle.std.specs.Str.{bytes_eq}
 use Rattle.qe_script.specs.declared.script.Header.{Header}
-use Rattle.qe_indexed.specs.Cut.{indexed_at, Answers}
+use Rattle.qe_base.specs.Answers.{Refuses}
+use Rattle.qe_indexed.specs.Reading.{indexed_at}
+use Rattle.qe_indexed.specs.Faults as of_indexed
 use Rattle.qe_indexed.specs.Parts as parts
 use Rattle.qe_indexed.specs.declared.fault.IndexedFault.{IndexedFault}
 use Rattle.qe_indexed.specs.declared.fault.IndexedFault.TheVariants as indexed
-use Rattle.qe_seal.specs.Sealed.{opened_value, AnswersSeal}
+use Rattle.qe_seal.specs.Sealed.{opened_value}
+use Rattle.qe_seal.specs.Sealed as of_seal
 use Rattle.qe_seal.specs.declared.sealed.SealFault.{SealFault}
 use Rattle.qe_seal.specs.declared.sealed.SealFault.TheVariants as seal
 use Rattle.qe_tokens.specs.Tokens.{root_key_of, server_cipher_of}
 use Rattle.qerun.specs.Opening.{on_ok, Opens, seal_refusal, indexed_refusal, unsealed, value_sent, sealed_in, value_of, value_in, documents_in}
-use Rattle.qe_indexed.specs.Block.{deciphered}
+use Rattle.qe_seal.specs.Enciphered.{deciphered}
 use Rattle.qerun.specs.declared.document.Document.{Document}
 use Rattle.qerun.specs.declared.opening.OpenFault.{OpenFault}
 use Rattle.qerun.specs.declared.opening.OpenFault.TheVariants.{Indexed, KeyDiffers, Seal, NotInt32, NoMemory}
@@ -44,20 +47,20 @@ only_memory NotInt32 due value given is = cc
 only_memory NoMemory due value given is = refl
 
 -- a refused seal is passed on
-pub opens_seal : (fault : SealFault) (inner : Result (List ℕ) SealFault) → AnswersSeal (Err fault) inner → Opens (Err (seal_refusal fault)) (unsealed inner)
-opens_seal seal.TooShort inner given = ap unsealed given
-opens_seal (seal.MacDiffers want got) inner given = ap unsealed given
-opens_seal seal.BadLength inner given = ap unsealed given
-opens_seal seal.BadPadding inner given = ap unsealed given
+pub opens_seal : (fault : SealFault) (inner : Result (List ℕ) SealFault) → Refuses (of_seal.kept_fault fault) inner → Opens (Err (seal_refusal fault)) (unsealed inner)
+opens_seal seal.TooShort inner given = sym (ap unsealed given)
+opens_seal (seal.MacDiffers want got) inner given = sym (ap unsealed given)
+opens_seal seal.BadLength inner given = sym (ap unsealed given)
+opens_seal seal.BadPadding inner given = sym (ap unsealed given)
 opens_seal seal.NoMemory inner given = tt
 
 -- refused bytes are passed on
-pub opens_indexed : (header : Header) (fault : IndexedFault) (due : Result parts.Indexed IndexedFault) → Answers (Err fault) due
+pub opens_indexed : (header : Header) (fault : IndexedFault) (due : Result parts.Indexed IndexedFault) → Refuses (of_indexed.kept_fault fault) due
     → Opens (Err (indexed_refusal fault)) (value_of header due)
-opens_indexed header (indexed.BlobSubtype first) due given = ap (value_of header) given
-opens_indexed header indexed.Short due given = ap (value_of header) given
-opens_indexed header indexed.EdgeCountZero due given = ap (value_of header) given
-opens_indexed header indexed.LengthWrong due given = ap (value_of header) given
+opens_indexed header (indexed.BlobSubtype first) due given = sym (ap (value_of header) given)
+opens_indexed header indexed.Short due given = sym (ap (value_of header) given)
+opens_indexed header indexed.EdgeCountZero due given = sym (ap (value_of header) given)
+opens_indexed header indexed.LengthWrong due given = sym (ap (value_of header) given)
 opens_indexed header indexed.NoMemory due given = tt
 
 -- an indexed value of the field's key, and of another

@@ -7,11 +7,11 @@ use Rattle.std.proofs.Math.Facts.{Fits-of_z, Fits-lt-pow}
 use Rattle.std.proofs.lemmas.List.{take_at, drop_at}
 use Rattle.std.proofs.lemmas.Nat.{from_le_bytes-to_le_bytes_4}
 use Rattle.std.proofs.lemmas.Slice.Eq.{bytes_eq-Decides}
-use Rattle.qe_aes.specs.Laws.{AreBytes}
-use Rattle.qe_indexed.specs.Block.{enciphered}
-use Rattle.qe_indexed.specs.Layout.{IsLaidOut}
-use Rattle.qe_indexed.proofs.BlockLemmas.{deciphered-enciphered}
-use Rattle.qe_indexed.proofs.CutLemmas.{parts_are}
+use Rattle.qe_base.specs.Bytes.{AreBytes}
+use Rattle.qe_seal.specs.Enciphered.{enciphered}
+use Rattle.qe_indexed.specs.Spelling.{IsLaidOut}
+use Rattle.qe_seal.proofs.EncipheredLemmas.{deciphered-enciphered}
+use Rattle.qe_indexed.proofs.ReadingLemmas.{parts_are}
 use Rattle.qe_script.specs.declared.script.Header.{Header}
 use Rattle.qe_seal.specs.Sealed.{opened_value}
 use Rattle.qe_seal.proofs.SealLawLemmas.{opened_value-Seals}

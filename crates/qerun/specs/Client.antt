@@ -1,6 +1,7 @@
 -- What the client sends for a command: a word's tokens in the place of its value, and the sealed value.
 use Rattle.std.specs.Prelude.{◌≡◌, ℕ, List, ◌++◌}
-use Rattle.qe_aes.specs.Laws.{AreBytes, IsBlock}
+use Rattle.qe_base.specs.Bytes.{AreBytes}
+use Rattle.qe_aes.specs.Laws.{IsBlock}
 use Rattle.qe_script.specs.declared.script.Command.{Command}
 use Rattle.qe_script.specs.declared.script.Command.TheVariants as command
 use Rattle.qe_script.specs.declared.script.Header.{Header}

@@ -2,7 +2,7 @@
 use Rattle.std.specs.Prelude.{◌≡◌, ℕ, ℤ, List, [], ◌∷◌, ◌==◌, length, take, drop, Result, Ok, Err, if◌then◌else◌}
 use Rattle.std.specs.Int.{w32, from_le_bytes, cast_signed}
 use Rattle.std.specs.Str.{bytes_eq}
-use Rattle.qe_indexed.specs.Cut.{indexed_at}
+use Rattle.qe_indexed.specs.Reading.{indexed_at}
 use Rattle.qe_indexed.specs.Parts as parts
 use Rattle.qe_indexed.specs.declared.fault.IndexedFault.{IndexedFault}
 use Rattle.qe_indexed.specs.declared.fault.IndexedFault.TheVariants as indexed
@@ -11,7 +11,7 @@ use Rattle.qe_seal.specs.Sealed.{opened_value}
 use Rattle.qe_seal.specs.declared.sealed.SealFault.{SealFault}
 use Rattle.qe_seal.specs.declared.sealed.SealFault.TheVariants as seal
 use Rattle.qe_tokens.specs.Tokens.{root_key_of, server_cipher_of}
-use Rattle.qe_indexed.specs.Block.{deciphered}
+use Rattle.qe_seal.specs.Enciphered.{deciphered}
 use Rattle.qerun.specs.declared.answer.Answer.{Answer}
 use Rattle.qerun.specs.declared.answer.Answer.TheVariants as answer
 use Rattle.qerun.specs.declared.document.Document.{Document}

@@ -4,7 +4,7 @@ use Rattle.std.specs.List.{list_any, range_with_len}
 use Rattle.std.specs.Ordering.{int_eq}
 use Rattle.std.specs.Str.{bytes_eq}
 use Rattle.qe_tokens.specs.Tokens.{esc_tag_of, edc_twice_of, position_of, document_tag_of}
-use Rattle.qe_indexed.specs.Layout.{IsLaidOut}
+use Rattle.qe_indexed.specs.Spelling.{IsLaidOut}
 use Rattle.qerun.specs.Stored.{indexed_of}
 use Rattle.qerun.specs.declared.answer.Answer.{Answer}
 use Rattle.qerun.specs.declared.answer.Answer.TheVariants as answer

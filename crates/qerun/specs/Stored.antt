@@ -1,6 +1,7 @@
 -- What the server keeps in the place of a value.
 use Rattle.std.specs.Prelude.{ℕ, [], ◌∷◌, false}
-use Rattle.qe_indexed.specs.Block.{enciphered, block_of}
+use Rattle.qe_indexed.specs.Block.{block_of}
+use Rattle.qe_seal.specs.Enciphered.{enciphered}
 use Rattle.qe_indexed.specs.Parts.{Indexed}
 use Rattle.qe_tokens.specs.Tokens.{edc_twice_of}
 use Rattle.qerun.specs.declared.request.Payload.{Payload}

@@ -1,4 +1,5 @@
-ghost use Rattle.qe_aes.specs.Laws.{AreBytes, IsBlock};
+ghost use Rattle.qe_base.specs.Bytes.{AreBytes};
+ghost use Rattle.qe_aes.specs.Laws.{IsBlock};
 
 /// The items of a slice of bytes are bytes, as laws of lists of numbers ask.
 pub fn are_bytes(bytes: &[u8])

@@ -1,6 +1,6 @@
 ghost use Rattle.std.specs.Prelude.{◌≡◌, length, IfOk};
-ghost use Rattle.qe_indexed.specs.Layout.{IsLaidOut};
-ghost use Rattle.qe_indexed.specs.Block.{enciphered, deciphered};
+ghost use Rattle.qe_indexed.specs.Spelling.{IsLaidOut};
+ghost use Rattle.qe_seal.specs.Enciphered.{enciphered, deciphered};
 ghost use Rattle.qerun.specs.Stored.{indexed_of};
 
 use crate::request::Payload;

@@ -1,4 +1,4 @@
-use Rattle.qe_indexed.proofs.LayoutLemmas.{IsLaidOut-one}
+use Rattle.qe_indexed.proofs.SpellingLemmas.{IsLaidOut-one}
 use Rattle.qe_indexed.proofs.LawLemmas as law
 use Rattle.qe_indexed.proofs.laws.bytes_are_one_value.Goals as goal
 

@@ -1,6 +1,6 @@
 use Rattle.std.proofs.Common.{◌≡◌, ◌*◌, length, take}
 use Rattle.std.specs.Prelude.{All}
-use Rattle.qe_indexed.specs.Layout.{joined}
+use Rattle.qe_indexed.specs.Spelling.{joined}
 use Rattle.qe_indexed.proofs.reading.blocks_of.Given as goal
 
 abbrev pub invariant-loop-i : goal.invariant-loop-i

@@ -1,5 +1,5 @@
 use Rattle.std.proofs.Common.{take, drop, ap, ◌∙◌, refl}
-use Rattle.qe_indexed.proofs.LayoutLemmas.{IsLaidOut-cut}
+use Rattle.qe_indexed.proofs.SpellingLemmas.{IsLaidOut-cut}
 use Rattle.qe_indexed.proofs.reading.value_of.Goals as goal
 
 pub returns : goal.returns

@@ -1,7 +1,7 @@
 use Rattle.std.proofs.Common.{◌≡◌, ◌++◌, [], length, take, get_or, ap, sym, ◌∙◌, arith}
 use Rattle.std.proofs.lemmas.List.{append-nil}
 use Rattle.qe_indexed.specs.declared.block.Block.{Block}
-use Rattle.qe_indexed.specs.Layout.{joined}
+use Rattle.qe_indexed.specs.Spelling.{joined}
 use Rattle.qe_indexed.proofs.JoinLemmas.{joined-nil, append-joined-more, AreLong-more}
 use Rattle.qe_indexed.proofs.writing.push_blocks.Goals as goal
 

@@ -1,5 +1,5 @@
 use Rattle.std.proofs.Common.{◌≡◌, ◌++◌, take}
-use Rattle.qe_indexed.specs.Layout.{joined}
+use Rattle.qe_indexed.specs.Spelling.{joined}
 use Rattle.qe_indexed.proofs.JoinLemmas.{AreLong}
 use Rattle.qe_indexed.proofs.writing.push_blocks.Given as goal
 

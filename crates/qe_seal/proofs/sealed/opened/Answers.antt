@@ -1,4 +1,4 @@
-use Rattle.std.proofs.Common.{drop, ap, ◌∙◌}
+use Rattle.std.proofs.Common.{◌≡◌, take, drop, ap, sym, ◌∙◌}
 use Rattle.std.proofs.lemmas.List.{take_rest}
 use Rattle.qe_seal.specs.Cbc.{cbc_decryption}
 use Rattle.qe_seal.specs.Sealed.{encryption_key, seal_answer}
@@ -8,7 +8,8 @@ pub returns : goal.returns
 returns c =
     let body = c.args.body.now in
     ap seal_answer
-    (c.in_ok-plain.ensures
-    ∙ ap (cbc_decryption c.encryption_key.result c.array_at-iv.result) (take_rest body 16)
+    (sym
+    (ap (cbc_decryption c.encryption_key.result c.array_at-iv.result) (take_rest body 16)
     ∙ ap (λ key. cbc_decryption key c.array_at-iv.result (drop 16 body)) c.encryption_key.ensures
     ∙ ap (λ iv. cbc_decryption (encryption_key c.args.key.now) iv (drop 16 body)) c.array_at-iv.ensures)
+    ∙ c.in_ok-plain.ensures)

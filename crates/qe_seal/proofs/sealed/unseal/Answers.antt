@@ -11,7 +11,7 @@ returns-then-ne c =
     let long : 64 ≤ length bytes = omega arith in
     let got_is : c.array_at-got.result ≡ stored_mac bytes = c.array_at-got.ensures ∙ take-stored_mac bytes long in
     let differ : bytes_eq c.seal_mac-want.result c.array_at-got.result ≡ false = not-true _ (sym c.ne.ensures ∙ c.if-ne.true) in
-    sym (opened_value-differs c.args.key.now c.args.id.now bytes c.seal_mac-want.result c.array_at-got.result long c.seal_mac-want.ensures got_is differ)
+    opened_value-differs c.args.key.now c.args.id.now bytes c.seal_mac-want.result c.array_at-got.result long c.seal_mac-want.ensures got_is differ
 
 pub returns : goal.returns
 returns c =

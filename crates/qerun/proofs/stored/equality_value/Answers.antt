@@ -2,7 +2,7 @@ use Rattle.std.proofs.Common.{◌≡◌, ℕ, ◌+◌, ◌++◌, ◌∷◌, [], 
 use Rattle.std.proofs.lemmas.List.{length-append}
 use Rattle.qe_aes.specs.CounterMode.{counter_mode}
 use Rattle.qe_indexed.specs.declared.block.Block.{Block}
-use Rattle.qe_indexed.specs.Block.{enciphered}
+use Rattle.qe_seal.specs.Enciphered.{enciphered}
 use Rattle.qerun.specs.Stored.{indexed_of}
 use Rattle.qerun.proofs.stored.equality_value.Goals as goal
 

@@ -1,7 +1,7 @@
 use Rattle.std.proofs.Common.{◌≡◌, ◌++◌, length, ap, sym, ◌∙◌}
 use Rattle.std.proofs.lemmas.List.{append_assoc}
 use Rattle.qe_indexed.specs.Parts.{Indexed}
-use Rattle.qe_indexed.specs.Layout.{written, head_of, joined}
+use Rattle.qe_indexed.specs.Spelling.{written, head_of, joined}
 use Rattle.qe_indexed.proofs.JoinLemmas.{AreLong}
 use Rattle.qe_indexed.proofs.value.IndexedValue.write.Goals as goal
 

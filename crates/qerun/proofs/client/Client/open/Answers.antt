@@ -1,7 +1,7 @@
 use Rattle.std.proofs.Common.{◌≡◌, false, true, sym, ap, ◌∙◌}
 use Rattle.std.proofs.lemmas.Result.{err_from_is_err_and}
 use Rattle.std.specs.Str.{bytes_eq}
-use Rattle.qe_indexed.specs.Cut.{indexed_at}
+use Rattle.qe_indexed.specs.Reading.{indexed_at}
 use Rattle.qe_indexed.specs.Parts.{Indexed}
 use Rattle.qerun.specs.Opening.{value_in}
 use Rattle.qerun.proofs.OpeningLemmas.{opens_indexed, value_in-own, value_in-other, differ_from_not, same_from_not}
@@ -19,7 +19,7 @@ returns-then-ne c header is =
     let own = ap (λ (v : Indexed). v.key_id) c.value.view_is in
     let differ : bytes_eq value.key_id header.field.key_id ≡ false =
     differ_from_not _ (rw (own, is.key_id) at (c.if-ne.ensures)) in
-    sym (value_in-other header c.args.stored.now value (sym c.in_ok-value.ensures.exact) differ)
+    sym (value_in-other header c.args.stored.now value c.in_ok-value.ensures.exact differ)
 
 pub returns : goal.returns
 returns c header is =
@@ -28,4 +28,4 @@ returns c header is =
     let same : bytes_eq value.key_id header.field.key_id ≡ true =
     same_from_not _ (rw (own, is.key_id) at (sym c.if-ne.false ∙ c.ne.ensures)) in
     let sealed = c.slice.ensures ∙ ap (λ (v : Indexed). v.server_value) c.value.view_is in
-    rw (value_in-own header c.args.stored.now value (sym c.in_ok-value.ensures.exact) same) (rw sealed at (c.unsealed.ensures header is))
+    rw (value_in-own header c.args.stored.now value c.in_ok-value.ensures.exact same) (rw sealed at (c.unsealed.ensures header is))

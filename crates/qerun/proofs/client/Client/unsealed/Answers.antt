@@ -38,4 +38,4 @@ returns c header is =
     let due : sealed_in header c.args.server_value.now ≡ unsealed (opened_value client.key client.key_id c.in-Some.sealed.now) =
     sealed_in-sent header client.key client.key_id client.cipher.0 c.args.server_value.now sent is.key is.key_id is.cipher c.in_ok-sent.ensures
     ∙ value_sent-own client.key client.key_id sent same ∙ ap (λ s. unsealed (opened_value client.key client.key_id s)) (sym rest) in
-    opens c.int32.result _ (sym (due ∙ ap unsealed (sym c.in_ok-plain.ensures) ∙ sym (c.int32.ensures ∙ ap int32_of c.slice.ensures)))
+    opens c.int32.result _ (sym (due ∙ ap unsealed c.in_ok-plain.ensures ∙ sym (c.int32.ensures ∙ ap int32_of c.slice.ensures)))

@@ -3,7 +3,7 @@ use Rattle.std.proofs.Common.{◌≡◌, ℕ, ◌+◌, ◌*◌, ◌-◌, ◌≤�
 use Rattle.std.proofs.lemmas.List.{append_assoc, take_at, drop_at, take-append-drop, take-take, drop-drop, drop-take, drop_more, length-take-le}
 use Rattle.qe_indexed.specs.declared.block.Block.{Block}
 use Rattle.qe_indexed.specs.Parts.{Indexed, most_blocks}
-use Rattle.qe_indexed.specs.Layout.{first_byte, edge_count, joined, head_of, head_length, written, IsLaidOut, HasShape, AreBlocks}
+use Rattle.qe_indexed.specs.Spelling.{first_byte, edge_count, joined, head_of, head_length, written, IsLaidOut, HasShape, AreBlocks}
 use Rattle.qe_indexed.proofs.JoinLemmas.{AreLong, length-joined, joined-one}
 
 -- what stands behind the type

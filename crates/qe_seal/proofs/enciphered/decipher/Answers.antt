@@ -1,11 +1,11 @@
 use Rattle.std.proofs.Common.{take, drop, ap, ◌∙◌, arith, length-drop}
 use Rattle.std.proofs.lemmas.List.{take_all}
 use Rattle.qe_aes.specs.CounterMode.{counter_mode}
-use Rattle.qe_indexed.proofs.block.decipher.Goals as goal
+use Rattle.qe_seal.proofs.enciphered.decipher.Goals as goal
 
 pub returns : goal.returns
 returns c =
     let key = c.args.key.now in
-    let bytes = c.args.sealed.now in
-    c.ctr.ensures ∙ ap (λ iv. counter_mode key iv c.array_at-plain.result) c.array_at.ensures
+    let bytes = c.args.bytes.now in
+    c.ctr.ensures ∙ ap (λ iv. counter_mode key iv c.array_at-plain.result) c.array_at-iv.ensures
     ∙ ap (counter_mode key (take 16 bytes)) (c.array_at-plain.ensures ∙ take_all 16 (drop 16 bytes) (omega (arith, length-drop 16 bytes)))

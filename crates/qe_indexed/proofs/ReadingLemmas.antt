@@ -1,15 +1,16 @@
 -- The parts that bytes are cut into are those of the value that they are laid out as.
-use Rattle.std.proofs.Common.{◌≡◌, ℕ, ◌+◌, ◌*◌, ◌-◌, ◌≤◌, List, [], ◌∷◌, ◌++◌, length, take, drop, get_or, refl, ap, sym, ◌∙◌, arith, Bool, true, false, ◌==◌, if◌then◌else◌, Option, Some, None, Result, Ok, Err, length-drop, subst}
-use Rattle.std.specs.Prelude.{slice_index}
+use Rattle.std.proofs.Common.{◌≡◌, ◌≢◌, ℕ, ◌+◌, ◌*◌, ◌-◌, ◌≤◌, List, [], ◌∷◌, ◌++◌, length, take, drop, get_or, refl, ap, sym, ◌∙◌, arith, Bool, true, false, ◌==◌, if◌then◌else◌, Option, Some, None, Result, Ok, Err, length-drop, subst}
+use Rattle.std.specs.Prelude.{slice_get, slice_index}
 use Rattle.std.proofs.lemmas.List.{take_at, drop_at, drop-drop, drop_more, get_or-append_right}
 use Rattle.qe_indexed.specs.declared.fault.IndexedFault.{IndexedFault}
-use Rattle.qe_indexed.specs.declared.fault.IndexedFault.TheVariants.{NoMemory, Short, BlobSubtype, EdgeCountZero, LengthWrong}
+use Rattle.qe_indexed.specs.declared.fault.IndexedFault.TheVariants.{Short, BlobSubtype}
 use Rattle.qe_indexed.specs.Parts.{Indexed, most_blocks}
-use Rattle.qe_indexed.specs.Layout.{first_byte, edge_count, joined, head_length, IsLaidOut, HasShape}
-use Rattle.qe_indexed.specs.Refusal.{refusal_of, Checks, IsRefusal}
-use Rattle.qe_indexed.specs.Cut.{blocks_in, parts_by, is_range, count_in, unless_refused, indexed_at, Answers}
+use Rattle.qe_indexed.specs.Spelling.{first_byte, edge_count, joined, head_length, IsLaidOut, HasShape}
+use Rattle.qe_indexed.specs.Faults.{refusal_of, equality_refusal, range_refusal, unless_refused}
+use Rattle.qe_indexed.specs.Reading.{blocks_in, parts_by, is_range, count_in, shape_at, indexed_at}
+use Rattle.qe_indexed.proofs.FaultLemmas.{refused_empty, refusal_of-other}
 use Rattle.qe_indexed.proofs.JoinLemmas.{AreBlocks-blocks_in}
-use Rattle.qe_indexed.proofs.LayoutLemmas.{tail_of, written-parts, length-written, IsLaidOut-cut, IsLaidOut-one}
+use Rattle.qe_indexed.proofs.SpellingLemmas.{tail_of, written-parts, length-written, IsLaidOut-cut, IsLaidOut-one}
 use Rattle.qe_indexed.proofs.LawLemmas.{accepted}
 
 length-edges : (range : Bool) (count : ℕ) → length (edge_count range count) ≡ head_length range - 18
@@ -71,11 +72,27 @@ parts_are value bytes is =
     ∙ ap (λ range. Ok (parts_by range (count_in bytes) bytes)) kind ∙ ap (λ n. Ok (parts_by value.range n bytes)) counted
     ∙ ap Ok (IsLaidOut-one (parts_by value.range count bytes) value bytes cut is)
 
--- a refusal is answered where it is due
-pub refused : (fault : IndexedFault) (bytes : List ℕ) → IsRefusal fault (refusal_of bytes) → Answers (Err fault) (indexed_at bytes)
-unfolding indexed_at
-refused Short bytes due = rw due
-refused (BlobSubtype first) bytes due = rw due
-refused EdgeCountZero bytes due = rw due
-refused LengthWrong bytes due = rw due
-refused NoMemory bytes due = tt
+-- the shape, by the first byte
+pub shape_at-none : (bytes : List ℕ) → None ≡ slice_get bytes 0 → shape_at bytes ≡ Err Short
+unfolding shape_at
+shape_at-none bytes is = rw (refused_empty bytes is)
+
+pub shape_at-14 : (bytes : List ℕ) (first : ℕ) → Some first ≡ slice_get bytes 0 → first ≡ 14
+    → shape_at bytes ≡ unless_refused (equality_refusal (length bytes)) (false, 1)
+unfolding refusal_of shape_at
+shape_at-14 [] first is same = absurd (cc)
+shape_at-14 (b ∷ rest) first is same =
+    let begins : first ≡ b = cc in
+    rw (sym begins ∙ same) refl
+
+pub shape_at-15 : (bytes : List ℕ) (first : ℕ) → Some first ≡ slice_get bytes 0 → first ≡ 15
+    → shape_at bytes ≡ unless_refused (range_refusal (length bytes) (slice_index bytes 18)) (true, slice_index bytes 18)
+unfolding refusal_of shape_at
+shape_at-15 [] first is same = absurd (cc)
+shape_at-15 (b ∷ rest) first is same =
+    let begins : first ≡ b = cc in
+    rw (sym begins ∙ same) refl
+
+pub shape_at-other : (bytes : List ℕ) (first : ℕ) → Some first ≡ slice_get bytes 0 → first ≢ 14 → first ≢ 15 → shape_at bytes ≡ Err (BlobSubtype first)
+unfolding shape_at
+shape_at-other bytes first is not_14 not_15 = rw (refusal_of-other bytes first is not_14 not_15)

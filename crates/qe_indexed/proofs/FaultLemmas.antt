@@ -1,10 +1,11 @@
 -- The first refusal, by the first byte.
-use Rattle.std.proofs.Common.{◌≡◌, ◌≢◌, ℕ, List, [], ◌∷◌, length, refl, sym, ◌∙◌, Option, Some, None}
+use Rattle.std.proofs.Common.{◌≡◌, ◌≢◌, ℕ, List, [], ◌∷◌, length, refl, ap, sym, ◌∙◌, Option, Some, None}
 use Rattle.std.proofs.lemmas.Bool.{ne_eqb}
-use Rattle.std.specs.Prelude.{slice_get, slice_index, Result, Ok, Err, IfErr}
+use Rattle.std.specs.Prelude.{slice_get, slice_index, Result, Ok, Err}
+use Rattle.qe_base.specs.Answers.{Refuses}
 use Rattle.qe_indexed.specs.declared.fault.IndexedFault.{IndexedFault}
-use Rattle.qe_indexed.specs.declared.fault.IndexedFault.TheVariants.{Short, BlobSubtype, EdgeCountZero, LengthWrong, NoMemory}
-use Rattle.qe_indexed.specs.Refusal.{refusal_of, equality_refusal, range_refusal, IsRefusal, Checks}
+use Rattle.qe_indexed.specs.declared.fault.IndexedFault.TheVariants.{Short, BlobSubtype}
+use Rattle.qe_indexed.specs.Faults.{refusal_of, equality_refusal, range_refusal, unless_refused}
 
 pub refused_empty : (bytes : List ℕ) → None ≡ slice_get bytes 0 → refusal_of bytes ≡ Some Short
 unfolding refusal_of
@@ -33,14 +34,13 @@ refusal_of-other (b ∷ rest) first is not_14 not_15 =
     let begins : first ≡ b = cc in
     rw (sym begins, ne_eqb first 14 not_14, ne_eqb first 15 not_15) refl
 
--- a fault that isn't due is want of memory
-IsRefusal-None : (fault : IndexedFault) → IsRefusal fault None → fault ≡ NoMemory
-IsRefusal-None (BlobSubtype b) due = absurd (cc)
-IsRefusal-None Short due = absurd (cc)
-IsRefusal-None EdgeCountZero due = absurd (cc)
-IsRefusal-None LengthWrong due = absurd (cc)
-IsRefusal-None NoMemory due = refl
+-- what is refused is refused whatever the answer were
+refused_alike : {A B : Type 0} (due : Option IndexedFault) (fault : IndexedFault) (answer : A) (other : B) → unless_refused due answer ≡ Err fault
+    → unless_refused due other ≡ Err fault
+refused_alike None fault answer other is = absurd (cc)
+refused_alike (Some first) fault answer other is = let same : first ≡ fault = cc in ap Err same
 
-pub only_memory : {A : Type 0} (result : Result A IndexedFault) (due : Option IndexedFault) → Checks result due → due ≡ None → IfErr result (λ fault. fault ≡ NoMemory)
-only_memory (Ok answer) due checks none = tt
-only_memory (Err fault) due checks none = IsRefusal-None fault (rw (sym none) checks)
+pub Refuses-alike : {A B : Type 0} (kept due : Option IndexedFault) (answer : A) (other : B) → Refuses kept (unless_refused due answer)
+    → Refuses kept (unless_refused due other)
+Refuses-alike None due answer other refuses = tt
+Refuses-alike (Some fault) due answer other refuses = refused_alike due fault answer other refuses

@@ -1,11 +1,11 @@
--- What bytes hold, as a function: an indexed value where nothing is refused, or else the refusal.
-use Rattle.std.specs.Prelude.{◌≡◌, ℕ, zero, suc, ◌-◌, ◌*◌, ◌==◌, List, [], ◌∷◌, length, take, drop, slice_index, Bool, if◌then◌else◌, Option, Some, None, Result, Ok, Err}
+-- An indexed value from bytes, as a function with its first fault.
+use Rattle.std.specs.Prelude.{ℕ, zero, suc, ◌-◌, ◌*◌, ◌==◌, List, [], ◌∷◌, length, take, drop, slice_index, Bool, if◌then◌else◌, Result}
 use Rattle.qe_indexed.specs.declared.block.Block.{Block}
 use Rattle.qe_indexed.specs.declared.fault.IndexedFault.{IndexedFault}
-use Rattle.qe_indexed.specs.declared.fault.IndexedFault.TheVariants.{NoMemory}
+use Rattle.qe_indexed.specs.declared.reading.Shape.{Shape}
 use Rattle.qe_indexed.specs.Parts.{Indexed}
-use Rattle.qe_indexed.specs.Layout.{head_length}
-use Rattle.qe_indexed.specs.Refusal.{refusal_of}
+use Rattle.qe_indexed.specs.Spelling.{head_length}
+use Rattle.qe_indexed.specs.Faults.{refusal_of, unless_refused}
 
 -- bytes cut into so many blocks
 unfoldable pub blocks_in : ℕ → List ℕ → List Block
@@ -31,14 +31,13 @@ is_range bytes = slice_index bytes 0 == 15
 abbrev pub count_in : List ℕ → ℕ
 count_in bytes = if is_range bytes then slice_index bytes 18 else 1
 
-abbrev pub unless_refused : Option IndexedFault → Indexed → Result Indexed IndexedFault
-unless_refused None value = Ok value
-unless_refused (Some fault) value = Err fault
+abbrev pub kind_and_count : Shape → Bool × ℕ
+kind_and_count shape = (shape.range, shape.count)
 
+-- whether it is a range value, and its number of blocks
+unfoldable pub shape_at : List ℕ → Result (Bool × ℕ) IndexedFault
+shape_at bytes = unless_refused (refusal_of bytes) (is_range bytes, count_in bytes)
+
+-- the value
 unfoldable pub indexed_at : List ℕ → Result Indexed IndexedFault
 indexed_at bytes = unless_refused (refusal_of bytes) (parts_by (is_range bytes) (count_in bytes) bytes)
-
--- the answer is the one that is due, or memory was short
-abbrev pub Answers : Result Indexed IndexedFault → Result Indexed IndexedFault → Type 0
-Answers (Err NoMemory) due = Unit {0}
-Answers answer due = answer ≡ due

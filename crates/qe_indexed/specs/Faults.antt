@@ -1,5 +1,5 @@
 -- Why bytes are no indexed value: the first of these that holds.
-use Rattle.std.specs.Prelude.{◌≡◌, ℕ, ◌+◌, ◌*◌, List, [], ◌∷◌, length, slice_index, ◌==◌, nat_lt, if◌then◌else◌, Option, Some, None, Result, Ok, Err}
+use Rattle.std.specs.Prelude.{ℕ, ◌+◌, ◌*◌, List, [], ◌∷◌, length, slice_index, ◌==◌, nat_lt, if◌then◌else◌, Option, Some, None, Result, Ok, Err}
 use Rattle.qe_indexed.specs.declared.fault.IndexedFault.{IndexedFault}
 use Rattle.qe_indexed.specs.declared.fault.IndexedFault.TheVariants.{Short, BlobSubtype, EdgeCountZero, LengthWrong, NoMemory}
 
@@ -18,12 +18,12 @@ refusal_of (first ∷ rest) =
     let bytes = first ∷ rest in
     if first == 14 then equality_refusal (length bytes) else (if first == 15 then range_refusal (length bytes) (slice_index bytes 18) else Some (BlobSubtype first))
 
--- a fault is the one that is due, or want of memory
-abbrev pub IsRefusal : IndexedFault → Option IndexedFault → Type 0
-IsRefusal NoMemory due = Unit {0}
-IsRefusal fault due = due ≡ Some fault
+-- a refusal of another cause than want of memory
+abbrev pub kept_fault : IndexedFault → Option IndexedFault
+kept_fault NoMemory = None
+kept_fault fault = Some fault
 
--- an answer comes where nothing is refused, and a refusal where it is due
-abbrev pub Checks : {A : Type 0} → Result A IndexedFault → Option IndexedFault → Type 0
-Checks (Ok answer) due = due ≡ None
-Checks (Err fault) due = IsRefusal fault due
+-- this answer where nothing is refused, and else the refusal
+abbrev pub unless_refused : {A : Type 0} → Option IndexedFault → A → Result A IndexedFault
+unless_refused None answer = Ok answer
+unless_refused (Some fault) answer = Err fault
