@@ -1,0 +1,24 @@
+//! Prints what the public calls of the lower crates answer, a line for each vector: `stdout` holds the values of the
+//! standards, of libmongocrypt, of openssl and of Python programs. Read: line, then a module for each subject.
+#![tactic(auto)]
+
+mod ciphers;
+mod hashes;
+mod indexed_values;
+mod line;
+mod prefixes;
+mod sealed_values;
+mod streams;
+mod token_tree;
+
+use line::Fault;
+
+fn main(rt: HostRuntime) -> Result<(), Fault> {
+    streams::print(&rt)?;
+    ciphers::print(&rt)?;
+    hashes::print(&rt)?;
+    sealed_values::print(&rt)?;
+    token_tree::print(&rt)?;
+    indexed_values::print(&rt)?;
+    prefixes::print(&rt)
+}

@@ -1,0 +1,35 @@
+//! Sealed values, as openssl makes them.
+
+use crate::line::{Fault, Hex, bytes_of, counting};
+use qe_seal::{SealFault, seal, unseal};
+
+const SEALED: &str = "101112131415161718191a1b1c1d1e1f2f54e8a316c8bffdcc51248d1664f017\
+    22c635e90c728e38b5e8751a0059d4053152a1d13aea1d92704df4e517c40709";
+
+/// Prints what is sealed and unsealed under the key 00 to 5f.
+pub fn print(rt: &(impl Print + AllocGlobal)) -> Result<(), Fault> {
+    let sealed = seal(
+        rt.alloc(),
+        &counting(0),
+        &counting(0xa0),
+        &counting(0x10),
+        &[42, 0, 0, 0],
+    )?;
+    println!(rt; "sealed 2a000000: {}", Hex(sealed.slice()))?;
+    let mut bytes: [u8; 64] = bytes_of(SEALED)?;
+    print_unsealed(rt, &bytes)?;
+    print_unsealed(rt, &[0; 63])?;
+    bytes[63] = 0;
+    print_unsealed(rt, &bytes)
+}
+
+fn print_unsealed(rt: &(impl Print + AllocGlobal), bytes: &[u8]) -> Result<(), Fault> {
+    match unseal(rt.alloc(), &counting(0), &counting(0xa0), bytes) {
+        Ok(plain) => println!(rt; "unsealed {} bytes: {}", bytes.len(), Hex(plain.slice()))?,
+        Err(SealFault::MacDiffers { want, got }) => {
+            println!(rt; "the MAC is {}, not {}", Hex(&want), Hex(&got))?
+        }
+        Err(fault) => println!(rt; "unsealed {} bytes: {fault:?}", bytes.len())?,
+    }
+    Ok(())
+}
