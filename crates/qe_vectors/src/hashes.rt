@@ -29,10 +29,15 @@ fn print_macs(rt: &impl Print) -> Result<(), Fault> {
     Ok(())
 }
 
-// Numbers are hashed as little-endian bytes, by Python's `hmac`.
+// Numbers are hashed as little-endian bytes, by Python's `hmac`; then the same under a kept key.
 fn print_prfs(rt: &impl Print) -> Result<(), Fault> {
     let key = [7; 32];
-    println!(rt; "prf1 of 258: {}", Hex(&prf1(&key, 0x0102)))?;
-    println!(rt; "prf2 of 3 and 2^56: {}", Hex(&prf2(&key, 3, 1 << 56)))?;
+    let kept = HmacKey::new(&key);
+    for mac in [prf1(&key, 0x0102), kept.prf1(0x0102)] {
+        println!(rt; "prf1 of 258: {}", Hex(&mac))?;
+    }
+    for mac in [prf2(&key, 3, 1 << 56), kept.prf2(3, 1 << 56)] {
+        println!(rt; "prf2 of 3 and 2^56: {}", Hex(&mac))?;
+    }
     Ok(())
 }
