@@ -1,0 +1,9 @@
+pub mod Rows
+pub mod Identifiers
+pub mod Pairs
+pub mod Boundary
+pub mod Digits
+pub mod Counts
+pub mod Found
+pub mod Changes
+pub mod Laws

@@ -1,0 +1,30 @@
+-- The two numbers in an anchor's value: how many anchors a cleanup has taken out, and how many positions are counted.
+use Rattle.std.specs.Prelude.{ℕ, zero, suc, ◌+◌, ◌%◌, ◌^◌, List, Option, Some}
+use Rattle.std.specs.FinMap.{get}
+use Rattle.qe_seal.specs.Enciphered.{enciphered_pair, deciphered_pair}
+use Rattle.qe_tokens.specs.Tokens.{esc_value_of}
+use Rattle.qe_esc.specs.Rows.{Row, Rows}
+use Rattle.qe_esc.specs.Identifiers.{id_of}
+use Rattle.qe_esc.specs.declared.key.RowKind.TheVariants.{Anchor}
+
+-- the value that an anchor has for these two numbers, under an IV
+abbrev pub sealed_pair : List ℕ → List ℕ → ℕ → ℕ → List ℕ
+sealed_pair token iv apos cpos = enciphered_pair (esc_value_of token) iv apos cpos
+
+-- the numbers in a value
+abbrev pub opened_pair : List ℕ → List ℕ → ℕ × ℕ
+opened_pair token value = deciphered_pair (esc_value_of token) value
+
+-- the numbers of what stands at an anchor's identifier: 0 and 0 where there is no row, or it has no value
+abbrev pub pair_of : List ℕ → Option Row → ℕ × ℕ
+pair_of token (Some (Some value)) = opened_pair token value
+pair_of token row = (0, 0)
+
+-- the numbers of the null anchor
+unfoldable pub null_pair : Rows → List ℕ → ℕ × ℕ
+null_pair rows token = pair_of token (get rows (id_of Anchor token 0))
+
+-- how many positions are counted by the last of `hop` anchors, or by the null anchor where there is none
+unfoldable pub base_of : Rows → List ℕ → ℕ → ℕ
+base_of rows token zero = (null_pair rows token).1
+base_of rows token (suc n) = (pair_of token (get rows (id_of Anchor token (((null_pair rows token).0 + suc n) % 2 ^ 64)))).1
