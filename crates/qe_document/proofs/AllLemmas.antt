@@ -3,7 +3,8 @@ use Rattle.std.proofs.Common.{◌≡◌, ℕ, zero, suc, ◌<◌, List, [], ◌�
 use Rattle.std.proofs.lemmas.List.{append-nil, length-append}
 use Rattle.qe_document.specs.declared.fault.BsonFault.{BsonFault}
 use Rattle.qe_document.specs.Reading.{on_with, all_at}
-use Rattle.qe_document.proofs.ReaderTools.{IsBytes, bind_ok, ok_is}
+use Rattle.qe_base.specs.Bytes.{AreBytes}
+use Rattle.qe_document.proofs.ReaderTools.{bind_ok, ok_is}
 
 -- the elements' bytes, where each element is spelled by those before it
 abbrev pub spelled_from : {A : Type 0} → (List A → A → List ℕ) → List A → List A → List ℕ
@@ -19,7 +20,7 @@ module _ {A : Type 0} (one : List A → ℕ → List ℕ → Result (Option (A �
   -- one element that is read is spelled so
   pub record OneTakes : Type 0 where
     pub none : (before : List A) (end : ℕ) (bytes : List ℕ) → one before end bytes ≡ Ok None → bytes ≡ 0 ∷ []
-    pub some : (before : List A) (end : ℕ) (bytes : List ℕ) (x : A × List ℕ) → IsBytes bytes → one before end bytes ≡ Ok (Some x) → (bytes ≡ e before x.0 ++ x.1) × IsBytes x.1 × P before x.0
+    pub some : (before : List A) (end : ℕ) (bytes : List ℕ) (x : A × List ℕ) → AreBytes bytes → one before end bytes ≡ Ok (Some x) → (bytes ≡ e before x.0 ++ x.1) × AreBytes x.1 × P before x.0
 
   -- one element that is spelled is read, and is no empty text
   pub record OneReads : Type 0 where
@@ -31,8 +32,8 @@ module _ {A : Type 0} (one : List A → ℕ → List ℕ → Result (Option (A �
   abbrev pub Taken : List A → List ℕ → List A → Type 0
   Taken before bytes all = (xs : List A) × (all ≡ before ++ xs) × (bytes ≡ spelled_from e before xs ++ (0 ∷ [])) × AllFrom P before xs
 
-  taken_next : OneTakes → (turns : ℕ) (before : List A) (end : ℕ) (bytes : List ℕ) (all : List A) (o : Option (A × List ℕ)) → IsBytes bytes → one before end bytes ≡ Ok o
-      → ((longer : List A) (rest : List ℕ) → IsBytes rest → all_at one turns longer end rest ≡ Ok all → Taken longer rest all)
+  taken_next : OneTakes → (turns : ℕ) (before : List A) (end : ℕ) (bytes : List ℕ) (all : List A) (o : Option (A × List ℕ)) → AreBytes bytes → one before end bytes ≡ Ok o
+      → ((longer : List A) (rest : List ℕ) → AreBytes rest → all_at one turns longer end rest ≡ Ok all → Taken longer rest all)
       → on_with before (λ longer rest. all_at one turns longer end rest) o ≡ Ok all → Taken before bytes all
   taken_next takes turns before end bytes all None fits read go given =
       ([], sym (ok_is before all given) ∙ sym (append-nil before), takes.none before end bytes read, tt)
@@ -42,7 +43,7 @@ module _ {A : Type 0} (one : List A → ℕ → List ℕ → Result (Option (A �
       (x.0 ∷ others.0, others.1 ∙ append_assoc before (x.0 ∷ []) others.0, first.0 ∙ ap (λ (r : List ℕ). e before x.0 ++ r) others.2 ∙ sym (append_assoc (e before x.0) (spelled_from e (before ++ x.0 ∷ []) others.0) (0 ∷ [])), (first.2, others.3))
 
   -- all elements that are read are spelled so
-  pub all_takes : OneTakes → (turns : ℕ) (before : List A) (end : ℕ) (bytes : List ℕ) (all : List A) → IsBytes bytes → all_at one turns before end bytes ≡ Ok all → Taken before bytes all
+  pub all_takes : OneTakes → (turns : ℕ) (before : List A) (end : ℕ) (bytes : List ℕ) (all : List A) → AreBytes bytes → all_at one turns before end bytes ≡ Ok all → Taken before bytes all
   unfolding all_at
   all_takes takes zero before end bytes all fits given = absurd cc
   all_takes takes (suc turns) before end bytes all fits given =

@@ -11,7 +11,8 @@ use Rattle.qe_document.specs.Spelling.{Fits_with, FieldsFit, ItemsFit}
 use Rattle.qe_document.proofs.OneLevelLemmas.{FieldFits, ItemFits}
 use Rattle.qe_document.proofs.PlainLemmas as tree
 use Rattle.qe_document.specs.Views.{plain, field_view}
-use Rattle.qe_document.specs.Writing.{greatest, LeafFits, depth, fields_depth, items_depth, holds_zero, zero_in, zero_in_fields, zero_in_items}
+use Rattle.qe_document.specs.Measures.{greatest, depth, fields_depth, items_depth, holds_zero, zero_in, zero_in_fields, zero_in_items}
+use Rattle.qe_document.specs.Writing.{LeafFits}
 
 pub depth-Doc : (fs : List (List ℕ × Plain)) → depth (p.Doc fs) ≡ fields_depth fs
 unfolding depth

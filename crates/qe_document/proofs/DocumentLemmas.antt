@@ -2,17 +2,20 @@
 use Rattle.std.proofs.Common.{◌≡◌, ℕ, ◌+◌, ◌-◌, ◌^◌, ◌≤◌, false, ◌||◌, leb, ltb, List, [], ◌∷◌, ◌++◌, length, map, take, drop, Result, Ok, Err, refl, sym, ap, subst, ◌∙◌, append_assoc, arith, inl, inr}
 use Rattle.std.specs.Prelude.{IfOk}
 use Rattle.std.specs.Int.{w32, to_le_bytes, from_le_bytes}
-use Rattle.qe_document.specs.Answers.{Gives}
+use Rattle.qe_base.specs.Answers.{Answers}
+use Rattle.qe_document.specs.Faults.{bson_refusal}
 use Rattle.std.proofs.Math.Seq.{take-add}
 use Rattle.std.proofs.lemmas.Bool.{ltb-false, le-ltb, lt-leb, or_parts, or_from}
 use Rattle.std.proofs.lemmas.List.{append-nil, take_at, drop_at, take-append-drop, length-append, length-take, length-drop}
 use Rattle.std.proofs.lemmas.Nat.{le_bytes_4, from_le_bytes-to_le_bytes_4}
 use Rattle.qe_document.specs.declared.fault.BsonFault.{BsonFault}
+use Rattle.qe_document.specs.declared.fault.EncodeFault.{EncodeFault}
 use Rattle.qe_document.specs.declared.value.Plain.{Plain}
 use Rattle.qe_document.specs.Reading.{◌>>=◌, fields_in, length_at, document_at}
 use Rattle.qe_document.specs.Spelling.{spelled_field, fields_bytes, document_bytes, IsDocument, Begins}
 use Rattle.qe_document.proofs.LevelLemmas.{level_takes, level_again}
-use Rattle.qe_document.proofs.ReaderTools.{IsBytes, IsBytes-take, IsBytes-drop, bind_ok, ok_is, chosen}
+use Rattle.qe_base.specs.Bytes.{AreBytes}
+use Rattle.qe_document.proofs.ReaderTools.{AreBytes-take, AreBytes-drop, bind_ok, ok_is, chosen}
 
 -- the outermost length, and what it promises
 record Long (bytes : List ℕ) (n : ℕ) : Type 0 where
@@ -46,7 +49,7 @@ length_takes bytes n e =
     ]
 
 -- what is read begins the bytes
-pub document_takes : (bytes : List ℕ) (x : List (List ℕ × Plain) × ℕ) → IsBytes bytes → document_at bytes ≡ Ok x → Begins bytes x.0 x.1
+pub document_takes : (bytes : List ℕ) (x : List (List ℕ × Plain) × ℕ) → AreBytes bytes → document_at bytes ≡ Ok x → Begins bytes x.0 x.1
 unfolding document_at
 document_takes bytes x fits e =
     let a = bind_ok (length_at bytes) (λ n. fields_in 100 n (take (n - 4) (drop 4 bytes)) >>= λ fields. Ok (fields, n)) x e in
@@ -54,12 +57,12 @@ document_takes bytes x fits e =
     let long = length_takes bytes n a.1 in
     let inside : List ℕ = take (n - 4) (drop 4 bytes) in
     let b = bind_ok (fields_in 100 n inside) (λ fields. Ok (fields, n)) x a.2 in
-    let held = (level_takes 100).fields_take n inside b.0 (IsBytes-take (n - 4) (drop 4 bytes) (IsBytes-drop 4 bytes fits)) b.1 in
+    let held = (level_takes 100).fields_take n inside b.0 (AreBytes-take (n - 4) (drop 4 bytes) (AreBytes-drop 4 bytes fits)) b.1 in
     let elements : List ℕ = fields_bytes (map spelled_field b.0) in
     let counted : length inside ≡ n - 4 = omega (arith, length-take (n - 4) (drop 4 bytes), length-drop 4 bytes, long.within, long.least) in
     let len : length elements + 5 ≡ n = omega (arith, counted, ap (λ (t : List ℕ). length t) held.0, length-append elements (0 ∷ []), long.least) in
     let four : length (take 4 bytes) ≡ 4 = omega (arith, length-take 4 bytes, long.some) in
-    let front : to_le_bytes w32 (length elements + 5) ≡ take 4 bytes = le_bytes_4 (take 4 bytes) (length elements + 5) four (IsBytes-take 4 bytes fits) (len ∙ sym long.is) in
+    let front : to_le_bytes w32 (length elements + 5) ≡ take 4 bytes = le_bytes_4 (take 4 bytes) (length elements + 5) four (AreBytes-take 4 bytes fits) (len ∙ sym long.is) in
     let cut : take n bytes ≡ take 4 bytes ++ inside = ap (λ (k : ℕ). take k bytes) (let whole : n ≡ 4 + (n - 4) = omega (arith, long.least) in whole) ∙ take-add 4 (n - 4) bytes in
     let spelling : take n bytes ≡ document_bytes b.0 = cut ∙ ap (λ (t : List ℕ). take 4 bytes ++ t) held.0 ∙ ap (λ (t : List ℕ). t ++ (elements ++ (0 ∷ []))) (sym front) in
     let size : length (document_bytes b.0) ≤ 16777216 = omega (arith, long.most, length-take n bytes, ap (λ (t : List ℕ). length t) spelling) in
@@ -101,10 +104,14 @@ begins_again bytes fs n begins =
     ap document_at parts ∙ document_again fs (drop n bytes) begins.document ∙ ap (λ (k : ℕ). Ok (fs, k)) (sym size)
 
 -- an answer that is what reading gives is a document that begins the bytes
-pub is_found : (bytes : List ℕ) (r : Result (List (List ℕ × Plain) × ℕ) BsonFault) → IsBytes bytes → Gives (λ x. x) r (document_at bytes) → IfOk r (λ x. Begins bytes x.0 x.1)
+pub is_found : (bytes : List ℕ) (r : Result (List (List ℕ × Plain) × ℕ) BsonFault) → AreBytes bytes → Answers (λ x. x) bson_refusal r (document_at bytes) → IfOk r (λ x. Begins bytes x.0 x.1)
 is_found bytes (Ok x) fits given = document_takes bytes x fits given
 is_found bytes (Err fault) fits given = tt
 
 -- the bytes of a document are read as it
 pub written_again : (fs : List (List ℕ × Plain)) (out : List ℕ) → IsDocument fs → out ≡ document_bytes fs → document_at out ≡ Ok (fs, length out)
 written_again fs out is written = rw written (ap document_at (sym (append-nil (document_bytes fs))) ∙ document_again fs [] is)
+
+pub is_read_again : (fs : List (List ℕ × Plain)) (r : Result (List ℕ) EncodeFault) → IfOk r (λ out. out ≡ document_bytes fs) → IfOk r (λ _. IsDocument fs) → IfOk r (λ out. document_at out ≡ Ok (fs, length out))
+is_read_again fs (Ok out) written fits = written_again fs out fits written
+is_read_again fs (Err fault) written fits = tt

@@ -9,7 +9,7 @@ use Rattle.qe_document.specs.Spelling.{spelled, spelled_field, fields_bytes, ite
 use Rattle.qe_document.proofs.AllLemmas.{spelled_from, all_takes, all_again}
 use Rattle.qe_document.proofs.ElementLemmas.{ValueTakes, ValueReads}
 use Rattle.qe_document.proofs.OneLevelLemmas.{field_bytes, item_bytes, fields_spelled, items_spelled, FieldFits, ItemFits, FieldRead, ItemRead, FieldStands, ItemStands, read_fit, read_apart, items_fit, fields_stand, items_stand, field_one_takes, item_one_takes, field_one_reads, item_one_reads}
-use Rattle.qe_document.proofs.ValueAgain.{InnerReads, value_again}
+use Rattle.qe_document.proofs.ValueAgain.{InnerReads, short_counted, value_again}
 use Rattle.qe_document.proofs.ValueTakes.{InnerTakes, value_takes}
 
 -- what is read at some level is spelled so, and fits
@@ -38,7 +38,7 @@ level_again zero = record { fields_again = λ end fs fit short. absurd fit; item
 level_again (suc room) =
     let F = FieldsFit room in
     let I = ItemsFit room in
-    let reads : ValueReads F I (value_at room) = λ v fits end rest more short. value_again F I (fields_in room) (items_in room) (level_again room) v fits end rest more short in
+    let reads : ValueReads F I (value_at room) = λ v fits end rest more short. value_again F I (fields_in room) (items_in room) (level_again room) v fits end rest more (short_counted v short) in
     record {
       fields_again = λ end fs fit short.
           let elements = fields_bytes (map spelled_field fs) in

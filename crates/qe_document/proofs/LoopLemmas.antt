@@ -3,7 +3,8 @@ use Rattle.std.proofs.Common.{◌≡◌, ℕ, suc, ◌+◌, ◌-◌, ◌<◌, �
 use Rattle.qe_document.specs.declared.fault.BsonFault.{BsonFault}
 use Rattle.qe_document.specs.declared.fault.BsonFault.TheVariants.{At, NoMemory}
 use Rattle.qe_document.specs.declared.fault.BsonKind.TheVariants.{NoTerminator}
-use Rattle.qe_document.specs.Answers.{Fails}
+use Rattle.qe_base.specs.Answers.{Refuses}
+use Rattle.qe_document.specs.Faults.{bson_refusal}
 use Rattle.qe_document.specs.Reading.{all_at}
 
 module _ {A : Type 0} (one : List A → ℕ → List ℕ → Result (Option (A × List ℕ)) BsonFault) (end n i : ℕ) (before : List A) (rest : List ℕ) (total : Result (List A) BsonFault)
@@ -23,7 +24,7 @@ module _ {A : Type 0} (one : List A → ℕ → List ℕ → Result (Option (A �
       sym so_far ∙ rw (turn, e) refl
 
   -- an element has a fault
-  pub fails : (fault : BsonFault) → i < n → Fails fault (one before end rest) → Fails fault total
+  pub fails : (fault : BsonFault) → i < n → Refuses (bson_refusal fault) (one before end rest) → Refuses (bson_refusal fault) total
   unfolding all_at
   fails NoMemory lt e = tt
   fails (At place kind) lt e =

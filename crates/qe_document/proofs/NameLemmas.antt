@@ -4,7 +4,7 @@ use Rattle.std.proofs.lemmas.Bool.{cases_Bool, or_parts}
 use Rattle.std.proofs.lemmas.List.{drop_all, length-append, take-append-drop}
 use Rattle.std.specs.BTreeSet.{BTreeSet}
 use Rattle.qe_document.specs.declared.value.Plain.{Plain}
-use Rattle.qe_document.specs.Seen.{Knows}
+use Rattle.qe_document.specs.NameSet.{Knows}
 use Rattle.std.proofs.lemmas.Slice.Eq.{bytes_eq-Decides}
 use Rattle.qe_document.specs.declared.value.Value.{Value}
 use Rattle.qe_document.specs.Names.{is_named, Distinct}

@@ -6,6 +6,7 @@ use Rattle.std.proofs.lemmas.Fmt.{decimal_by_steps, IsAscii-decimal}
 use Rattle.std.proofs.lemmas.List.{length-append}
 use Rattle.std.proofs.lemmas.List.Folds.{list_any-append}
 use Rattle.std.proofs.lemmas.Str.{IsUtf8-from_ascii, is_utf8-from_IsUtf8}
+use Rattle.qe_document.specs.declared.element_type.ElementType.{ElementType}
 use Rattle.qe_document.specs.declared.fault.BsonFault.{BsonFault}
 use Rattle.qe_document.specs.declared.value.Plain.{Plain, out-Plain}
 use Rattle.qe_document.specs.Names.{is_named, Distinct}
@@ -103,7 +104,7 @@ module _ (Fields : List (List ℕ × Plain) → Type 0) (Items : List Plain → 
       let len : length (items_bytes (length (before ++ v ∷ [])) (map spelled vs)) ≡ length later = ap (λ (b : List ℕ). length b) next in
       ((IsName-decimal (length before) (omega arith), each.0, bounds.0), items_stand (before ++ v ∷ []) vs each.1 (omega (arith, one_more before v, len, bounds.1)) (omega (arith, len, bounds.2)))
 
-  module _ (value : ℕ → ℕ → List ℕ → Result (Plain × List ℕ) BsonFault) where
+  module _ (value : ElementType → ℕ → List ℕ → Result (Plain × List ℕ) BsonFault) where
     pub field_one_takes : ValueTakes Fields Items value → OneTakes (field_at value) field_bytes FieldRead
     field_one_takes takes = record { none = field_none Fields Items value; some = field_takes Fields Items value takes }
 

@@ -2,32 +2,30 @@
 use Rattle.std.proofs.Common.{◌≡◌, ℕ, zero, suc, ◌+◌, ◌<◌, ◌⊎◌, Bool, true, false, cond, leb, List, [], ◌∷◌, ◌++◌, length, get_or, take, drop, Result, Ok, Err, refl, sym, subst, arith, inl, inr}
 use Rattle.std.proofs.lemmas.Bool.{cases_lt, leb-false, lt-leb}
 use Rattle.std.proofs.lemmas.List.{take_at, drop_at, take-append-drop, length-append, length-take, get_or-drop, get_or-take, get_or_past}
+use Rattle.qe_base.specs.Bytes.{AreBytes}
 use Rattle.qe_document.specs.declared.fault.BsonFault.{BsonFault}
 use Rattle.qe_document.specs.declared.fault.BsonKind.{BsonKind}
 use Rattle.qe_document.specs.declared.fault.BsonKind.TheVariants.{LengthWrong}
 use Rattle.qe_document.specs.Reading.{◌>>=◌, unless, fixed_at}
 
-abbrev pub IsBytes : List ℕ → Type 0
-IsBytes bytes = (i : ℕ) → get_or bytes i 0 < 256
+pub AreBytes-drop : (n : ℕ) (bytes : List ℕ) → AreBytes bytes → AreBytes (drop n bytes)
+AreBytes-drop n bytes fits i = rw get_or-drop (fits (n + i))
 
-pub IsBytes-drop : (n : ℕ) (bytes : List ℕ) → IsBytes bytes → IsBytes (drop n bytes)
-IsBytes-drop n bytes fits i = rw get_or-drop (fits (n + i))
-
-pub IsBytes-take : (n : ℕ) (bytes : List ℕ) → IsBytes bytes → IsBytes (take n bytes)
-IsBytes-take n bytes fits i =
+pub AreBytes-take : (n : ℕ) (bytes : List ℕ) → AreBytes bytes → AreBytes (take n bytes)
+AreBytes-take n bytes fits i =
     elim (cases_lt i n) [
       | inl lt ↦ rw (get_or-take n bytes i 0 lt) (fits i)
       | inr le ↦ rw (get_or_past (take n bytes) i 0 (omega (arith, length-take n bytes))) (omega arith)
     ]
 
-pub IsBytes-rest : (b : ℕ) (bytes : List ℕ) → IsBytes (b ∷ bytes) → IsBytes bytes
-IsBytes-rest b bytes fits i = fits (suc i)
+pub AreBytes-rest : (b : ℕ) (bytes : List ℕ) → AreBytes (b ∷ bytes) → AreBytes bytes
+AreBytes-rest b bytes fits i = fits (suc i)
 
-pub IsBytes-push : (bytes : List ℕ) → IsBytes bytes → IsBytes (bytes ++ 0 ∷ [])
-IsBytes-push [] fits zero = omega arith
-IsBytes-push [] fits (suc i) = omega arith
-IsBytes-push (b ∷ bytes) fits zero = fits 0
-IsBytes-push (b ∷ bytes) fits (suc i) = IsBytes-push bytes (IsBytes-rest b bytes fits) i
+pub AreBytes-push : (bytes : List ℕ) → AreBytes bytes → AreBytes (bytes ++ 0 ∷ [])
+AreBytes-push [] fits zero = omega arith
+AreBytes-push [] fits (suc i) = omega arith
+AreBytes-push (b ∷ bytes) fits zero = fits 0
+AreBytes-push (b ∷ bytes) fits (suc i) = AreBytes-push bytes (AreBytes-rest b bytes fits) i
 
 -- the value of a step that did not fail
 pub bind_ok : {A B : Type 0} (r : Result A BsonFault) (f : A → Result B BsonFault) (y : B) → (r >>= f) ≡ Ok y → (x : A) × (r ≡ Ok x) × (f x ≡ Ok y)
@@ -53,15 +51,15 @@ chosen false x y z e = inr (refl, e)
 -- what a reader took from the front
 pub record Takes (bytes text rest : List ℕ) : Type 0 where
   pub parts : bytes ≡ text ++ rest
-  pub text_fits : IsBytes text
-  pub rest_fits : IsBytes rest
+  pub text_fits : AreBytes text
+  pub rest_fits : AreBytes rest
 
-pub Takes-cut : (n : ℕ) (bytes : List ℕ) → IsBytes bytes → Takes bytes (take n bytes) (drop n bytes)
-Takes-cut n bytes fits = record { parts = sym (take-append-drop n bytes); text_fits = IsBytes-take n bytes fits; rest_fits = IsBytes-drop n bytes fits }
+pub Takes-cut : (n : ℕ) (bytes : List ℕ) → AreBytes bytes → Takes bytes (take n bytes) (drop n bytes)
+Takes-cut n bytes fits = record { parts = sym (take-append-drop n bytes); text_fits = AreBytes-take n bytes fits; rest_fits = AreBytes-drop n bytes fits }
 
 -- ---- so many bytes
 
-pub fixed_takes : (n end : ℕ) (bytes : List ℕ) (x : List ℕ × List ℕ) → IsBytes bytes → fixed_at n end bytes ≡ Ok x → Takes bytes x.0 x.1 × (length x.0 ≡ n)
+pub fixed_takes : (n end : ℕ) (bytes : List ℕ) (x : List ℕ × List ℕ) → AreBytes bytes → fixed_at n end bytes ≡ Ok x → Takes bytes x.0 x.1 × (length x.0 ≡ n)
 unfolding fixed_at
 fixed_takes n end bytes x fits e =
     let u = unless_ok (leb (length bytes) n) end bytes LengthWrong (Ok (take n bytes, drop n bytes)) x e in

@@ -1,8 +1,11 @@
-pub mod Answers
 pub mod Falls
+pub mod Faults
+pub mod Limits
+pub mod Measures
+pub mod NameSet
 pub mod Names
 pub mod Reading
-pub mod Seen
 pub mod Spelling
+pub mod Types
 pub mod Views
 pub mod Writing

@@ -1,21 +1,25 @@
 -- The grammar of BSON (bsonspec.org, version 1.1) for the types of the profile: how a document is spelled as bytes,
 -- and which documents are spelled. All numbers are little-endian.
-use Rattle.std.specs.Prelude.{◌≡◌, ℕ, ◌+◌, ◌^◌, ◌<◌, ◌≤◌, ◌==◌, Bool, true, false, zero, suc, List, [], ◌∷◌, ◌++◌, length, take, map, decimal, FitsSigned}
+use Rattle.std.specs.Prelude.{◌≡◌, ℕ, ◌+◌, ◌-◌, ◌^◌, ◌<◌, ◌≤◌, ◌==◌, Bool, true, false, zero, suc, List, [], ◌∷◌, ◌++◌, length, take, map, decimal, FitsSigned}
 use Rattle.std.specs.Int.{w32, w64, to_le_bytes, cast_unsigned}
 use Rattle.std.specs.List.{list_any, AllByRecursion}
 use Rattle.std.specs.Str.{is_utf8}
+use Rattle.qe_document.specs.declared.element_type.ElementType.{ElementType}
+use Rattle.qe_document.specs.declared.element_type.ElementType.TheVariants as type
 use Rattle.qe_document.specs.declared.value.Plain.{Plain, fold-Plain, out-Plain}
 use Rattle.qe_document.specs.declared.value.Plain.TheOpen.{Plain-F}
+use Rattle.qe_document.specs.Limits.{most_bytes, most_levels}
 use Rattle.qe_document.specs.Names.{Distinct}
+use Rattle.qe_document.specs.Types.{type_byte}
 
--- what stands for a value: the byte of its type, and the bytes behind the name
+-- what stands for a value: its type, and the bytes behind the name
 pub record Spelled : Type 0 where
-  pub kind : ℕ
+  pub kind : ElementType
   pub bytes : List ℕ
 
 -- e_list: an element is a type byte, a name, which a byte 0 ends, and a value
 abbrev pub element : List ℕ → Spelled → List ℕ
-element name v = v.kind ∷ (name ++ (0 ∷ v.bytes))
+element name v = type_byte v.kind ∷ (name ++ (0 ∷ v.bytes))
 
 abbrev pub fields_bytes : List (List ℕ × Spelled) → List ℕ
 fields_bytes [] = []
@@ -44,19 +48,19 @@ flag true = 1
 
 -- one value, with what it holds spelled already
 abbrev pub spelled_step : Plain-F Spelled → Spelled
-spelled_step (Plain-F.Double bytes) = record { kind = 0x01; bytes = bytes }
-spelled_step (Plain-F.Str text) = record { kind = 0x02; bytes = string text }
-spelled_step (Plain-F.Doc fs) = record { kind = 0x03; bytes = framed (fields_bytes fs) }
-spelled_step (Plain-F.Array vs) = record { kind = 0x04; bytes = framed (items_bytes 0 vs) }
-spelled_step (Plain-F.Binary subtype bytes) = record { kind = 0x05; bytes = binary subtype bytes }
-spelled_step (Plain-F.ObjectId bytes) = record { kind = 0x07; bytes = bytes }
-spelled_step (Plain-F.Bool b) = record { kind = 0x08; bytes = flag b ∷ [] }
-spelled_step (Plain-F.Date z) = record { kind = 0x09; bytes = to_le_bytes w64 (cast_unsigned w64 z) }
-spelled_step Plain-F.Null = record { kind = 0x0a; bytes = [] }
-spelled_step (Plain-F.Int32 z) = record { kind = 0x10; bytes = to_le_bytes w32 (cast_unsigned w32 z) }
-spelled_step (Plain-F.Timestamp n) = record { kind = 0x11; bytes = to_le_bytes w64 n }
-spelled_step (Plain-F.Int64 z) = record { kind = 0x12; bytes = to_le_bytes w64 (cast_unsigned w64 z) }
-spelled_step (Plain-F.Decimal bytes) = record { kind = 0x13; bytes = bytes }
+spelled_step (Plain-F.Double bytes) = record { kind = type.Double; bytes = bytes }
+spelled_step (Plain-F.Str text) = record { kind = type.Str; bytes = string text }
+spelled_step (Plain-F.Doc fs) = record { kind = type.Doc; bytes = framed (fields_bytes fs) }
+spelled_step (Plain-F.Array vs) = record { kind = type.Array; bytes = framed (items_bytes 0 vs) }
+spelled_step (Plain-F.Binary subtype bytes) = record { kind = type.Binary; bytes = binary subtype bytes }
+spelled_step (Plain-F.ObjectId bytes) = record { kind = type.ObjectId; bytes = bytes }
+spelled_step (Plain-F.Bool b) = record { kind = type.Bool; bytes = flag b ∷ [] }
+spelled_step (Plain-F.Date z) = record { kind = type.Date; bytes = to_le_bytes w64 (cast_unsigned w64 z) }
+spelled_step Plain-F.Null = record { kind = type.Null; bytes = [] }
+spelled_step (Plain-F.Int32 z) = record { kind = type.Int32; bytes = to_le_bytes w32 (cast_unsigned w32 z) }
+spelled_step (Plain-F.Timestamp n) = record { kind = type.Timestamp; bytes = to_le_bytes w64 n }
+spelled_step (Plain-F.Int64 z) = record { kind = type.Int64; bytes = to_le_bytes w64 (cast_unsigned w64 z) }
+spelled_step (Plain-F.Decimal bytes) = record { kind = type.Decimal; bytes = bytes }
 
 unfoldable pub spelled : Plain → Spelled
 spelled = fold-Plain Spelled spelled_step
@@ -67,6 +71,10 @@ spelled_field f = (f.0, spelled f.1)
 -- the bytes of a document
 abbrev pub document_bytes : List (List ℕ × Plain) → List ℕ
 document_bytes fs = framed (fields_bytes (map spelled_field fs))
+
+-- the bytes of an array
+abbrev pub array_bytes : List Plain → List ℕ
+array_bytes vs = framed (items_bytes 0 (map spelled vs))
 
 -- cstring: UTF-8 without a byte 0
 pub record IsName (name : List ℕ) : Type 0 where
@@ -89,6 +97,14 @@ Fits_with Fields Items (Plain-F.Timestamp n) = n < 2 ^ 64
 Fits_with Fields Items (Plain-F.Int64 z) = FitsSigned w64 z
 Fits_with Fields Items (Plain-F.Decimal bytes) = length bytes ≡ 16
 
+-- the int32 of a value's length counts it; the lengths of what it holds are smaller
+abbrev pub IsCounted : Plain-F Plain → Type 0
+IsCounted (Plain-F.Str text) = length text + 1 < 2 ^ 31
+IsCounted (Plain-F.Doc fs) = length (document_bytes fs) < 2 ^ 31
+IsCounted (Plain-F.Array vs) = length (array_bytes vs) < 2 ^ 31
+IsCounted (Plain-F.Binary subtype bytes) = length bytes < 2 ^ 31
+IsCounted _ = Unit {0}
+
 -- documents of at most so many levels, with distinct names at each level
 unfoldable mutual
   pub FieldsFit : ℕ → List (List ℕ × Plain) → Type 0
@@ -99,10 +115,10 @@ unfoldable mutual
   ItemsFit zero vs = ⊥
   ItemsFit (suc room) vs = AllByRecursion (λ v. Fits_with (FieldsFit room) (ItemsFit room) (out-Plain v)) vs
 
--- a document of the profile: at most 100 levels and 16,777,216 bytes
+-- a document of the profile: not too deep and not too long
 pub record IsDocument (fs : List (List ℕ × Plain)) : Type 0 where
-  pub fits : FieldsFit 100 fs
-  pub short : length (document_bytes fs) ≤ 16777216
+  pub fits : FieldsFit most_levels fs
+  pub short : length (document_bytes fs) ≤ most_bytes
 
 -- the first n bytes spell the document
 pub record Begins (bytes : List ℕ) (fs : List (List ℕ × Plain)) (n : ℕ) : Type 0 where
@@ -112,6 +128,7 @@ pub record Begins (bytes : List ℕ) (fs : List (List ℕ × Plain)) (n : ℕ) :
 
 -- the type and the bytes spell the value, which fits in a document
 pub record IsAlone (kind : ℕ) (bytes : List ℕ) (v : Plain) : Type 0 where
-  pub type_is : kind ≡ (spelled v).kind
+  pub type_is : kind ≡ type_byte (spelled v).kind
   pub bytes_are : bytes ≡ (spelled v).bytes
-  pub fits : Fits_with (FieldsFit 99) (ItemsFit 99) (out-Plain v)
+  pub fits : Fits_with (FieldsFit (most_levels - 1)) (ItemsFit (most_levels - 1)) (out-Plain v)
+  pub counted : IsCounted (out-Plain v)

@@ -1,7 +1,7 @@
 -- Values as plain trees, and the size of a tree.
 use Rattle.std.specs.Prelude.{ℕ, suc, ◌+◌, List, [], ◌∷◌, map, Option, None, Some}
 use Rattle.std.specs.Borrow.{Bor}
-use Rattle.qe_document.specs.declared.value.Plain.{Plain, fold-Plain}
+use Rattle.qe_document.specs.declared.value.Plain.{Plain, fold-Plain, out-Plain}
 use Rattle.qe_document.specs.declared.value.Plain.TheVariants as p
 use Rattle.qe_document.specs.declared.value.Plain.TheOpen.{Plain-F}
 use Rattle.qe_document.specs.declared.value.Value.{Value}
@@ -43,6 +43,22 @@ document_in _ = None
 abbrev pub array_in : Value → Option (List Plain)
 array_in (v.Array vs) = Some vs
 array_in _ = None
+
+abbrev pub fields_open : Plain-F Plain → Option (List (List ℕ × Plain))
+fields_open (Plain-F.Doc fields) = Some fields
+fields_open _ = None
+
+-- the fields of a tree that is a document
+unfoldable pub fields_of : Plain → Option (List (List ℕ × Plain))
+fields_of value = fields_open (out-Plain value)
+
+abbrev pub items_open : Plain-F Plain → Option (List Plain)
+items_open (Plain-F.Array items) = Some items
+items_open _ = None
+
+-- the items of a tree that is an array
+unfoldable pub items_of : Plain → Option (List Plain)
+items_of value = items_open (out-Plain value)
 
 -- the sum of some numbers
 abbrev pub total : List ℕ → ℕ

@@ -4,7 +4,8 @@ ghost use Rattle.std.specs.Prelude.{◌≡◌, ℕ, ◌≤◌, nat_le, false, le
 ghost use Rattle.qe_document.specs.Spelling.{Fits_with, FieldsFit, ItemsFit};
 ghost use Rattle.qe_document.specs.declared.value.Plain.{out-Plain};
 ghost use Rattle.qe_document.specs.Views.{plain};
-ghost use Rattle.qe_document.specs.Writing.{LeafFits, depth, fields_depth, holds_zero, items_depth, zero_in, zero_in_fields, zero_in_items};
+ghost use Rattle.qe_document.specs.Measures.{depth, fields_depth, holds_zero, items_depth, zero_in, zero_in_fields, zero_in_items};
+ghost use Rattle.qe_document.specs.Writing.{LeafFits};
 
 use crate::value::{Document, Value, Values};
 

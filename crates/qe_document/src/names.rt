@@ -2,7 +2,7 @@
 
 ghost use Rattle.std.specs.Prelude.{◌≡◌, ℕ, List, ◌∷◌, ◌++◌, [], true, not, drop, map, IfOk};
 ghost use Rattle.qe_document.specs.Names.{is_named};
-ghost use Rattle.qe_document.specs.Seen.{Knows};
+ghost use Rattle.qe_document.specs.NameSet.{Knows};
 ghost use Rattle.qe_document.specs.Views.{field_view};
 ghost use Rattle.qe_document.specs.declared.value.Plain.{Plain};
 

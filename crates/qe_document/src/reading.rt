@@ -1,93 +1,82 @@
 //! Reading documents.
 
-ghost use Rattle.std.specs.Prelude.{◌≡◌, ◌≢◌, ℕ, ◌-◌, ◌≤◌, ◌<◌, ◌^◌, [], ◌∷◌, ◌++◌, List, length, map, drop, option_map, Ok, bytes_eq, decimal, false, IfOk, IfSome};
+ghost use Rattle.std.specs.Prelude.{◌≡◌, ◌≢◌, ℕ, ◌-◌, ◌≤◌, ◌<◌, [], ◌∷◌, ◌++◌, List, length, map, drop, option_map, Ok, bytes_eq, decimal, false, IfOk, IfSome};
 ghost use Rattle.qe_document.specs.Names.{is_named};
-ghost use Rattle.qe_document.specs.Seen.{Knows};
-ghost use Rattle.qe_document.specs.Answers.{Gives};
-ghost use Rattle.qe_document.specs.Reading.{number_at, value_at, field_at, item_at, all_at, fields_in, items_in, length_at, document_at, alone_at};
+ghost use Rattle.qe_document.specs.NameSet.{Knows};
+ghost use Rattle.qe_base.specs.Answers.{Answers};
+ghost use Rattle.qe_document.specs.Faults.{bson_refusal};
+ghost use Rattle.qe_document.specs.Reading.{value_at, field_at, item_at, all_at, fields_in, items_in, length_at, document_at, typed_alone, alone_at};
 ghost use Rattle.qe_document.specs.Spelling.{Begins, IsAlone};
 ghost use Rattle.qe_document.specs.Views.{plain, field_view, taken_value, taken_field};
+ghost use Rattle.qe_document.specs.declared.element_type.ElementType.TheVariants.{Doc, Array};
 ghost use Rattle.qe_document.specs.declared.value.Plain.{Plain};
 
 use crate::fault::{BsonFault, BsonKind};
+use crate::limits::{MOST_BYTES, MOST_LEVELS};
 use crate::names::is_new;
-use crate::pieces::{at, begins, binary, boolean, fixed, frame, name, string};
+use crate::element::{at, begins, binary, boolean, fixed, frame, name, string};
+use crate::element_type::ElementType;
 use crate::value::{Document, Value, Values};
 use itoa::Buffer;
 use qe_base::Text;
 use std::alloc::Global;
 use std::collections::BTreeSet;
 
-/// The greatest number of levels of a document.
-pub(crate) const DEPTH: u32 = 100;
-
-/// The greatest number of bytes of a document.
-pub(crate) const LIMIT: usize = 16_777_216;
-
-// A number, by its type.
-fn number(kind: u8, until: usize, bytes: &[u8]) -> Result<(Value, &[u8]), BsonFault>
-    ensures { Gives taken_value result (number_at kind until bytes.now) }
-{
-    match kind {
-        0x09 => {
-            let (date, rest) = fixed::<8>(until, bytes)?;
-            Ok((Value::Date(i64::from_le_bytes(date)), rest))
-        }
-        0x10 => {
-            let (n, rest) = fixed::<4>(until, bytes)?;
-            Ok((Value::Int32(i32::from_le_bytes(n)), rest))
-        }
-        0x11 => {
-            let (n, rest) = fixed::<8>(until, bytes)?;
-            Ok((Value::Timestamp(u64::from_le_bytes(n)), rest))
-        }
-        0x12 => {
-            let (n, rest) = fixed::<8>(until, bytes)?;
-            Ok((Value::Int64(i64::from_le_bytes(n)), rest))
-        }
-        _ => Err(at(until, bytes, BsonKind::TypeUnknown)),
-    }
-}
-
-// A value that holds no document.
-fn scalar(
+// A value that holds no other.
+fn leaf(
     alloc: Global,
-    kind: u8,
+    kind: ElementType,
     until: usize,
     bytes: &[u8],
     room: u32,
 ) -> Result<(Value, &[u8]), BsonFault>
-    requires document { kind ≢ 3 }
-    requires array { kind ≢ 4 }
-    ensures { Gives taken_value result (value_at room kind until bytes.now) }
+    requires document { kind ≢ Doc }
+    requires array { kind ≢ Array }
+    ensures { Answers taken_value bson_refusal result (value_at room kind until bytes.now) }
 {
     match kind {
-        0x01 => {
+        ElementType::Double => {
             let (double, rest) = fixed::<8>(until, bytes)?;
             Ok((Value::Double(double), rest))
         }
-        0x02 => {
+        ElementType::Str => {
             let (text, rest) = string(alloc, until, bytes)?;
             Ok((Value::Str(text), rest))
         }
-        0x05 => {
+        ElementType::Binary => {
             let (subtype, bytes, rest) = binary(alloc, until, bytes)?;
             Ok((Value::Binary { subtype, bytes }, rest))
         }
-        0x07 => {
+        ElementType::ObjectId => {
             let (id, rest) = fixed::<12>(until, bytes)?;
             Ok((Value::ObjectId(id), rest))
         }
-        0x08 => {
+        ElementType::Bool => {
             let (b, rest) = boolean(until, bytes)?;
             Ok((Value::Bool(b), rest))
         }
-        0x0a => Ok((Value::Null, bytes)),
-        0x13 => {
+        ElementType::Date => {
+            let (date, rest) = fixed::<8>(until, bytes)?;
+            Ok((Value::Date(i64::from_le_bytes(date)), rest))
+        }
+        ElementType::Null => Ok((Value::Null, bytes)),
+        ElementType::Int32 => {
+            let (n, rest) = fixed::<4>(until, bytes)?;
+            Ok((Value::Int32(i32::from_le_bytes(n)), rest))
+        }
+        ElementType::Timestamp => {
+            let (n, rest) = fixed::<8>(until, bytes)?;
+            Ok((Value::Timestamp(u64::from_le_bytes(n)), rest))
+        }
+        ElementType::Int64 => {
+            let (n, rest) = fixed::<8>(until, bytes)?;
+            Ok((Value::Int64(i64::from_le_bytes(n)), rest))
+        }
+        ElementType::Decimal => {
             let (decimal, rest) = fixed::<16>(until, bytes)?;
             Ok((Value::Decimal(decimal), rest))
         }
-        _ => number(kind, until, bytes),
+        ElementType::Doc | ElementType::Array => unreachable!(),
     }
 }
 
@@ -95,32 +84,32 @@ fn scalar(
 #[cycle(read)]
 fn value_of(
     alloc: Global,
-    kind: u8,
+    kind: ElementType,
     until: usize,
     bytes: &[u8],
     room: u32,
 ) -> Result<(Value, &[u8]), BsonFault>
-    ensures { Gives taken_value result (value_at room kind until bytes.now) }
+    ensures { Answers taken_value bson_refusal result (value_at room kind until bytes.now) }
 {
     match kind {
-        0x03 => {
+        ElementType::Doc => {
             let (inside, rest) = frame(until, bytes)?;
             let document = document_of(alloc, until.saturating_sub(rest.len()), inside, room)?;
             Ok((Value::Doc(document), rest))
         }
-        0x04 => {
+        ElementType::Array => {
             let (inside, rest) = frame(until, bytes)?;
             let items = array_of(alloc, until.saturating_sub(rest.len()), inside, room)?;
             Ok((Value::Array(items), rest))
         }
-        _ => scalar(alloc, kind, until, bytes, room),
+        _ => leaf(alloc, kind, until, bytes, room),
     }
 }
 
 #[cycle(read)]
 #[tactic(auto, unfolding(crate::specs::Reading::fields_in))]
 fn document_of(alloc: Global, until: usize, bytes: &[u8], room: u32) -> Result<Document, BsonFault>
-    ensures { Gives (λ d. d) result (fields_in room until bytes.now) }
+    ensures { Answers (λ d. d) bson_refusal result (fields_in room until bytes.now) }
 {
     if room == 0 {
         return Err(BsonFault::At {
@@ -134,7 +123,7 @@ fn document_of(alloc: Global, until: usize, bytes: &[u8], room: u32) -> Result<D
 #[cycle(read)]
 #[tactic(auto, unfolding(crate::specs::Reading::items_in))]
 fn array_of(alloc: Global, until: usize, bytes: &[u8], room: u32) -> Result<Values, BsonFault>
-    ensures { Gives (λ vs. vs) result (items_in room until bytes.now) }
+    ensures { Answers (λ vs. vs) bson_refusal result (items_in room until bytes.now) }
 {
     if room == 0 {
         return Err(BsonFault::At {
@@ -148,7 +137,7 @@ fn array_of(alloc: Global, until: usize, bytes: &[u8], room: u32) -> Result<Valu
 // All fields to the document's end. There are fewer of them than bytes.
 #[cycle(read)]
 fn fields_of(alloc: Global, until: usize, bytes: &[u8], room: u32) -> Result<Document, BsonFault>
-    ensures { Gives (λ d. d) result (all_at (field_at (value_at room)) (length bytes.now) [] until bytes.now) }
+    ensures { Answers (λ d. d) bson_refusal result (all_at (field_at (value_at room)) (length bytes.now) [] until bytes.now) }
 {
     let mut fields = Vec::new(alloc);
     let mut seen = BTreeSet::new(alloc);
@@ -171,7 +160,7 @@ fn fields_of(alloc: Global, until: usize, bytes: &[u8], room: u32) -> Result<Doc
 // All items to the array's end. There are fewer of them than bytes.
 #[cycle(read)]
 fn items_of(alloc: Global, until: usize, bytes: &[u8], room: u32) -> Result<Values, BsonFault>
-    ensures { Gives (λ vs. vs) result (all_at (item_at (value_at room)) (length bytes.now) [] until bytes.now) }
+    ensures { Answers (λ vs. vs) bson_refusal result (all_at (item_at (value_at room)) (length bytes.now) [] until bytes.now) }
 {
     let mut items = Vec::new(alloc);
     let mut rest = bytes;
@@ -202,7 +191,7 @@ fn field_of<'a>(
     room: u32,
 ) -> Result<Option<((Text, Value), &'a [u8])>, BsonFault>
     requires { Knows seen.old (drop 16 (map field_view before.now)) }
-    ensures exact { Gives (λ o. option_map taken_field o) result (field_at (value_at room) (map field_view before.now) until bytes.now) }
+    ensures exact { Answers (λ o. option_map taken_field o) bson_refusal result (field_at (value_at room) (map field_view before.now) until bytes.now) }
     ensures new { IfOk result (λ o. IfSome o (λ x. is_named x.0.0 (map field_view before.now) ≡ false)) }
     ensures knows { IfOk result (λ o. IfSome o (λ x. Knows seen.new (drop 16 (map field_view before.now ++ field_view x.0 ∷ [])))) }
 {
@@ -229,7 +218,7 @@ fn item_of(
     bytes: &[u8],
     room: u32,
 ) -> Result<Option<(Value, &[u8])>, BsonFault>
-    ensures { (before : List Plain) → length before ≡ count → Gives (λ o. option_map taken_value o) result (item_at (value_at room) before until bytes.now) }
+    ensures { (before : List Plain) → length before ≡ count → Answers (λ o. option_map taken_value o) bson_refusal result (item_at (value_at room) before until bytes.now) }
 {
     match begins(until, bytes)? {
         None => Ok(None),
@@ -255,7 +244,7 @@ fn is_index(name: &str, n: usize) -> bool
 // The outermost document's length.
 #[tactic(auto, unfolding(crate::specs::Reading::length_at))]
 fn outer_length(bytes: &[u8]) -> Result<usize, BsonFault>
-    ensures exact { Gives (λ n. n) result (length_at bytes.now) }
+    ensures exact { Answers (λ n. n) bson_refusal result (length_at bytes.now) }
     ensures within { IfOk result (λ n. (5 ≤ n) × (n ≤ length bytes.now)) }
 {
     if bytes.len() < 4 {
@@ -272,7 +261,7 @@ fn outer_length(bytes: &[u8]) -> Result<usize, BsonFault>
             kind: BsonKind::LengthWrong,
         });
     }
-    if n > LIMIT {
+    if n > MOST_BYTES {
         return Err(BsonFault::At {
             place: 0,
             kind: BsonKind::TooLong,
@@ -290,12 +279,12 @@ fn outer_length(bytes: &[u8]) -> Result<usize, BsonFault>
 // The document that begins the bytes, and its length.
 #[tactic(auto, unfolding(crate::specs::Reading::document_at))]
 fn document(alloc: Global, bytes: &[u8]) -> Result<(Document, usize), BsonFault>
-    ensures { Gives (λ x. x) result (document_at bytes.now) }
+    ensures { Answers (λ x. x) bson_refusal result (document_at bytes.now) }
 {
     let n = outer_length(bytes)?;
     let (_, rest) = bytes.split_at(4);
     let (inside, _) = rest.split_at(n - 4);
-    let document = document_of(alloc, n, inside, DEPTH)?;
+    let document = document_of(alloc, n, inside, MOST_LEVELS)?;
     Ok((document, n))
 }
 
@@ -305,26 +294,38 @@ pub fn decode(alloc: Global, bytes: &[u8]) -> Result<(Document, usize), BsonFaul
     // What is read is spelled so by the first bytes.
     ensures found { IfOk result (λ x. Begins bytes.now x.0 x.1) }
     // What is spelled so is read, unless memory runs out.
-    ensures only { (fields : List (List ℕ × Plain)) (n : ℕ) → Begins bytes.now fields n → Gives (λ x. x) result (Ok (fields, n)) }
+    ensures only { (fields : List (List ℕ × Plain)) (n : ℕ) → Begins bytes.now fields n → Answers (λ x. x) bson_refusal result (Ok (fields, n)) }
     // Which fault it is.
-    ensures exact { Gives (λ x. x) result (document_at bytes.now) }
+    ensures exact { Answers (λ x. x) bson_refusal result (document_at bytes.now) }
 {
     document(alloc, bytes)
 }
 
 // The value that is all that stands before the last byte.
-#[tactic(auto, unfolding(crate::specs::Reading::alone_at))]
-fn value_alone(alloc: Global, kind: u8, bytes: &[u8]) -> Result<Value, BsonFault>
-    ensures { Gives plain result (alone_at kind bytes.now) }
+#[tactic(auto, unfolding(crate::specs::Reading::typed_alone))]
+fn value_alone(alloc: Global, kind: ElementType, bytes: &[u8]) -> Result<Value, BsonFault>
+    ensures { Answers plain bson_refusal result (typed_alone kind bytes.now) }
 {
     let mut whole = Vec::from_slice(alloc, bytes)?;
     whole.push(0)?;
     let until = whole.len();
-    let (value, rest) = value_of(alloc, kind, until, &whole, DEPTH - 1)?;
+    let (value, rest) = value_of(alloc, kind, until, &whole, MOST_LEVELS - 1)?;
     if rest.len() != 1 {
         return Err(at(until, rest, BsonKind::LengthWrong));
     }
     Ok(value)
+}
+
+fn typed(alloc: Global, kind: u8, bytes: &[u8]) -> Result<Value, BsonFault>
+    ensures { Answers plain bson_refusal result (alone_at kind bytes.now) }
+{
+    match ElementType::of(kind) {
+        None => Err(BsonFault::At {
+            place: 0,
+            kind: BsonKind::TypeUnknown,
+        }),
+        Some(kind) => value_alone(alloc, kind, bytes),
+    }
 }
 
 /// The value of a type that the bytes spell, all of the bytes, as they stand behind an element's name. Places count
@@ -333,9 +334,9 @@ pub fn value_from(alloc: Global, kind: u8, bytes: &[u8]) -> Result<Value, BsonFa
     // What is read is spelled so.
     ensures found { IfOk result (λ v. IsAlone kind bytes.now (plain v)) }
     // What is spelled so is read, unless memory runs out.
-    ensures only { (v : Plain) → IsAlone kind bytes.now v → length bytes.now < 2 ^ 31 → Gives plain result (Ok v) }
+    ensures only { (v : Plain) → IsAlone kind bytes.now v → Answers plain bson_refusal result (Ok v) }
     // Which fault it is.
-    ensures exact { Gives plain result (alone_at kind bytes.now) }
+    ensures exact { Answers plain bson_refusal result (alone_at kind bytes.now) }
 {
-    value_alone(alloc, kind, bytes)
+    typed(alloc, kind, bytes)
 }

@@ -249,6 +249,13 @@ impl Document {
         self.fields.is_empty()
     }
 
+    /// The fields, in their order.
+    pub fn slice(&self) -> &[(Text, Value)]
+        ensures { map field_view result.now ≡ self.now }
+    {
+        self.fields.as_slice()
+    }
+
     /// The name of a field, by its place from 0.
     pub fn name(&self, i: usize) -> &str
         requires { i < length self.now }

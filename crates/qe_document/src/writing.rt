@@ -1,14 +1,19 @@
 //! Writing documents: all bytes go to the end of one vector, and each length is filled in once it is known.
 
 ghost use Rattle.std.specs.Prelude.{◌≡◌, ℕ, ◌+◌, ◌≤◌, ◌∷◌, [], ◌++◌, List, Ok, length, map, IfOk, IfErr};
-ghost use Rattle.qe_document.specs.Reading.{document_at};
+ghost use Rattle.qe_base.specs.Answers.{Answers};
+ghost use Rattle.qe_document.specs.Faults.{encode_refusal};
+ghost use Rattle.qe_document.specs.Limits.{most_bytes};
+ghost use Rattle.qe_document.specs.Reading.{document_at, alone_at};
 ghost use Rattle.qe_document.specs.Views.{plain};
 ghost use Rattle.qe_document.specs.Spelling.{Spelled, element, fields_bytes, items_bytes, framed, string, binary as binary_bytes, spelled, spelled_field, document_bytes, IsDocument};
-ghost use Rattle.qe_document.specs.Writing.{Writes, spell, IsWhyRefused, WritingLaws};
+ghost use Rattle.qe_document.specs.Types.{type_byte};
+ghost use Rattle.qe_document.specs.Writing.{Writes, spell, encoded, value_encoded, IsWhyRefused};
 
 use crate::bounds::{has_zero, is_within, value_has_zero, value_within};
+use crate::element_type::ElementType;
 use crate::fault::EncodeFault;
-use crate::reading::{DEPTH, LIMIT};
+use crate::limits::{MOST_BYTES, MOST_LEVELS};
 use crate::value::{Document, Value, Values};
 use itoa::Buffer;
 use qe_base::Bytes;
@@ -21,7 +26,7 @@ const FRAME: usize = 7;
 fn put(out: &mut Vec<u8>, bytes: &[u8]) -> Result<(), EncodeFault>
     ensures { Writes out.old.items out.new.items result bytes.now }
 {
-    if out.len() > LIMIT || bytes.len() > LIMIT - out.len() {
+    if out.len() > MOST_BYTES || bytes.len() > MOST_BYTES - out.len() {
         return Err(EncodeFault::TooLong);
     }
     out.extend_from_slice(bytes)?;
@@ -32,7 +37,7 @@ fn put(out: &mut Vec<u8>, bytes: &[u8]) -> Result<(), EncodeFault>
 fn put_head(out: &mut Vec<u8>, kind: u8, name: &str) -> Result<(), EncodeFault>
     ensures { Writes out.old.items out.new.items result (kind ∷ (name.now ++ (0 ∷ []))) }
 {
-    if out.len() > LIMIT || name.len() > LIMIT || out.len() + name.len() + 2 > LIMIT {
+    if out.len() > MOST_BYTES || name.len() > MOST_BYTES || out.len() + name.len() + 2 > MOST_BYTES {
         return Err(EncodeFault::TooLong);
     }
     out.push(kind)?;
@@ -45,7 +50,7 @@ fn put_head(out: &mut Vec<u8>, kind: u8, name: &str) -> Result<(), EncodeFault>
 fn put_string(out: &mut Vec<u8>, text: &str) -> Result<(), EncodeFault>
     ensures { Writes out.old.items out.new.items result (string text.now) }
 {
-    if out.len() > LIMIT || text.len() > LIMIT || out.len() + text.len() + 5 > LIMIT {
+    if out.len() > MOST_BYTES || text.len() > MOST_BYTES || out.len() + text.len() + 5 > MOST_BYTES {
         return Err(EncodeFault::TooLong);
     }
     out.extend_from_slice(&(text.len() as u32 + 1).to_le_bytes())?;
@@ -58,7 +63,7 @@ fn put_string(out: &mut Vec<u8>, text: &str) -> Result<(), EncodeFault>
 fn put_binary(out: &mut Vec<u8>, subtype: u8, bytes: &[u8]) -> Result<(), EncodeFault>
     ensures { Writes out.old.items out.new.items result (binary_bytes subtype bytes.now) }
 {
-    if out.len() > LIMIT || bytes.len() > LIMIT || out.len() + bytes.len() + 5 > LIMIT {
+    if out.len() > MOST_BYTES || bytes.len() > MOST_BYTES || out.len() + bytes.len() + 5 > MOST_BYTES {
         return Err(EncodeFault::TooLong);
     }
     out.extend_from_slice(&(bytes.len() as u32).to_le_bytes())?;
@@ -70,10 +75,10 @@ fn put_binary(out: &mut Vec<u8>, subtype: u8, bytes: &[u8]) -> Result<(), Encode
 // Ends the document whose length stands at `start`.
 fn close(out: &mut Vec<u8>, start: usize) -> Result<(), EncodeFault>
     requires place { start + 4 ≤ length out.old.items }
-    requires small { length out.old.items ≤ 16777216 }
+    requires small { length out.old.items ≤ most_bytes }
     ensures { (front elements : List ℕ) → length front ≡ start → out.old.items ≡ front ++ ((0 ∷ 0 ∷ 0 ∷ 0 ∷ []) ++ elements) → Writes front out.new.items result (framed elements) }
 {
-    if out.len() == LIMIT {
+    if out.len() == MOST_BYTES {
         return Err(EncodeFault::TooLong);
     }
     out.push(0)?;
@@ -82,24 +87,24 @@ fn close(out: &mut Vec<u8>, start: usize) -> Result<(), EncodeFault>
     Ok(())
 }
 
-// A value's type byte.
-fn kind_of(value: &Value) -> u8
+// A value's type.
+fn kind_of(value: &Value) -> ElementType
     ensures { result ≡ (spell value.now).kind }
 {
     match value {
-        Value::Double(_) => 0x01,
-        Value::Str(_) => 0x02,
-        Value::Doc(_) => 0x03,
-        Value::Array(_) => 0x04,
-        Value::Binary { .. } => 0x05,
-        Value::ObjectId(_) => 0x07,
-        Value::Bool(_) => 0x08,
-        Value::Date(_) => 0x09,
-        Value::Null => 0x0a,
-        Value::Int32(_) => 0x10,
-        Value::Timestamp(_) => 0x11,
-        Value::Int64(_) => 0x12,
-        Value::Decimal(_) => 0x13,
+        Value::Double(_) => ElementType::Double,
+        Value::Str(_) => ElementType::Str,
+        Value::Doc(_) => ElementType::Doc,
+        Value::Array(_) => ElementType::Array,
+        Value::Binary { .. } => ElementType::Binary,
+        Value::ObjectId(_) => ElementType::ObjectId,
+        Value::Bool(_) => ElementType::Bool,
+        Value::Date(_) => ElementType::Date,
+        Value::Null => ElementType::Null,
+        Value::Int32(_) => ElementType::Int32,
+        Value::Timestamp(_) => ElementType::Timestamp,
+        Value::Int64(_) => ElementType::Int64,
+        Value::Decimal(_) => ElementType::Decimal,
     }
 }
 
@@ -129,7 +134,7 @@ pub(crate) fn put_value(out: &mut Vec<u8>, value: &Value) -> Result<(), EncodeFa
 fn put_element(out: &mut Vec<u8>, name: &str, value: &Value) -> Result<(), EncodeFault>
     ensures { Writes out.old.items out.new.items result (element name.now (spell value.now)) }
 {
-    put_head(out, kind_of(value), name)?;
+    put_head(out, kind_of(value).byte(), name)?;
     put_value(out, value)
 }
 
@@ -158,17 +163,14 @@ fn put_array(out: &mut Vec<u8>, values: &Values) -> Result<(), EncodeFault>
     close(out, start)
 }
 
-/// The bytes of a document.
-pub fn encode(alloc: Global, document: &Document) -> Result<Bytes, EncodeFault>
+fn document_out(alloc: Global, document: &Document) -> Result<Bytes, EncodeFault>
     ensures ok { IfOk result (λ out. out ≡ document_bytes document.now) }
     ensures fits { IfOk result (λ _. IsDocument document.now) }
-    // The bytes are read as the document again.
-    ensures again { IfOk result (λ out. document_at out ≡ Ok (document.now, length out)) }
     ensures err { IfErr result (IsWhyRefused document.now) }
 {
     let mut out = Vec::new(alloc);
     put_document(&mut out, document)?;
-    if !is_within(document, DEPTH) {
+    if !is_within(document, MOST_LEVELS) {
         return Err(EncodeFault::TooDeep);
     }
     if has_zero(document) {
@@ -177,19 +179,30 @@ pub fn encode(alloc: Global, document: &Document) -> Result<Bytes, EncodeFault>
     Ok(Bytes::from_vec(alloc, out))
 }
 
-/// The bytes of a value as they stand behind an element's name. They are refused as a document is whose one field has
-/// the empty name and this value.
-pub fn value_bytes(alloc: Global, value: &Value) -> Result<Bytes, EncodeFault>
+/// The bytes of a document.
+pub fn encode(alloc: Global, document: &Document) -> Result<Bytes, EncodeFault>
+    // Its bytes, or its first refusal.
+    ensures exact { Answers (λ out. out) encode_refusal result (encoded document.now) }
+    ensures ok { IfOk result (λ out. out ≡ document_bytes document.now) }
+    ensures fits { IfOk result (λ _. IsDocument document.now) }
+    // The bytes are read as the document again.
+    ensures again { IfOk result (λ out. document_at out ≡ Ok (document.now, length out)) }
+    ensures err { IfErr result (IsWhyRefused document.now) }
+{
+    document_out(alloc, document)
+}
+
+fn value_out(alloc: Global, value: &Value) -> Result<Bytes, EncodeFault>
     ensures ok { IfOk result (λ out. out ≡ (spelled (plain value.now)).bytes) }
     ensures fits { IfOk result (λ _. IsDocument (([], plain value.now) ∷ [])) }
     ensures err { IfErr result (IsWhyRefused (([], plain value.now) ∷ [])) }
 {
     let mut out = Vec::new(alloc);
     put_value(&mut out, value)?;
-    if out.len() + FRAME > LIMIT {
+    if out.len() + FRAME > MOST_BYTES {
         return Err(EncodeFault::TooLong);
     }
-    if !value_within(value, DEPTH - 1) {
+    if !value_within(value, MOST_LEVELS - 1) {
         return Err(EncodeFault::TooDeep);
     }
     if value_has_zero(value) {
@@ -198,14 +211,23 @@ pub fn value_bytes(alloc: Global, value: &Value) -> Result<Bytes, EncodeFault>
     Ok(Bytes::from_vec(alloc, out))
 }
 
-/// The byte of a value's type, which stands before an element's name.
-pub fn value_kind(value: &Value) -> u8
-    ensures { result ≡ (spelled (plain value.now)).kind }
+/// The bytes of a value as they stand behind an element's name. They are refused as a document is whose one field has
+/// the empty name and this value.
+pub fn value_bytes(alloc: Global, value: &Value) -> Result<Bytes, EncodeFault>
+    // Its bytes, or its first refusal.
+    ensures exact { Answers (λ out. out) encode_refusal result (value_encoded (plain value.now)) }
+    ensures ok { IfOk result (λ out. out ≡ (spelled (plain value.now)).bytes) }
+    ensures fits { IfOk result (λ _. IsDocument (([], plain value.now) ∷ [])) }
+    // The bytes are read as the value again.
+    ensures again { IfOk result (λ out. alone_at (type_byte (spelled (plain value.now)).kind) out ≡ Ok (plain value.now)) }
+    ensures err { IfErr result (IsWhyRefused (([], plain value.now) ∷ [])) }
 {
-    kind_of(value)
+    value_out(alloc, value)
 }
 
-/// Documents and values that fit are refused for want of memory alone.
-pub fn what_fits_is_written()
-    ensures { WritingLaws }
-{}
+/// The byte of a value's type, which stands before an element's name.
+pub fn value_kind(value: &Value) -> u8
+    ensures { result ≡ type_byte (spelled (plain value.now)).kind }
+{
+    kind_of(value).byte()
+}

@@ -1,6 +1,6 @@
 use Rattle.std.proofs.Common.{◌≡◌, ◌-◌, leb, drop, map}
 use Rattle.qe_document.specs.Views.{plain, field_view}
-use Rattle.qe_document.specs.Writing.{depth, greatest}
+use Rattle.qe_document.specs.Measures.{depth, greatest}
 use Rattle.qe_document.proofs.bounds.+depth.Given as goal
 
 -- what is left decides

@@ -2,7 +2,7 @@ use Rattle.std.proofs.Common.{◌≡◌, false, map, sym, ap, ◌∙◌, arith}
 use Rattle.std.proofs.lemmas.List.{drop_all}
 use Rattle.qe_document.specs.Spelling.{FieldsFit, ItemsFit}
 use Rattle.qe_document.specs.Views.{plain, field_view}
-use Rattle.qe_document.specs.Writing.{holds_zero, zero_in}
+use Rattle.qe_document.specs.Measures.{holds_zero, zero_in}
 use Rattle.qe_document.proofs.DepthLemmas.{depth-Doc, depth-Array, zero_in-Doc, zero_in-Array, zero_leaf, leaf_fits, next, fields_fit, items_fit}
 use Rattle.qe_document.proofs.NameLemmas.{Distinct-view}
 use Rattle.qe_document.proofs.PlainLemmas as tree

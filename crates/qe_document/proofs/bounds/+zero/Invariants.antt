@@ -1,5 +1,5 @@
 use Rattle.std.proofs.Common.{◌≡◌, ℕ, ◌≤◌, drop}
-use Rattle.qe_document.specs.Writing.{greatest, any_true}
+use Rattle.qe_document.specs.Measures.{greatest, any_true}
 use Rattle.qe_document.proofs.DepthLemmas.{depths_of_fields, zeros_of_fields, depths_of_items, zeros_of_items, FieldsLeftFit, ItemsLeftFit}
 use Rattle.qe_document.proofs.bounds.+zero.Given as goal
 

@@ -1,6 +1,6 @@
 use Rattle.std.proofs.Common.{◌≡◌, ◌+◌, ◌-◌, ◌*◌, [], length, map, drop}
 use Rattle.qe_document.specs.Names.{Distinct}
-use Rattle.qe_document.specs.Seen.{Knows}
+use Rattle.qe_document.specs.NameSet.{Knows}
 use Rattle.qe_document.specs.Reading.{value_at, field_at, item_at, all_at}
 use Rattle.qe_document.specs.Views.{plain, field_view}
 use Rattle.qe_document.proofs.reading.+read.Given as goal

@@ -1,11 +1,12 @@
 use Rattle.std.proofs.Common.{subst, arith}
-use Rattle.qe_document.specs.Answers.{Gives}
+use Rattle.qe_base.specs.Answers.{Answers}
+use Rattle.qe_document.specs.Faults.{bson_refusal}
 use Rattle.qe_document.specs.Views.{plain}
 use Rattle.qe_document.proofs.AloneLemmas.{is_found_alone, alone_again}
 use Rattle.qe_document.proofs.reading.value_from.Goals as goal
 
 pub returns-clause-found : goal.returns-clause-found
-returns-clause-found c = is_found_alone c.args.kind c.args.bytes.now c.value_alone.result (λ i. omega (arith, c.type_inv.bytes i)) c.value_alone.ensures
+returns-clause-found c = is_found_alone c.args.kind c.args.bytes.now c.typed.result (λ i. omega (arith, c.type_inv.bytes i)) c.typed.ensures
 
 pub returns-clause-only : goal.returns-clause-only
-returns-clause-only c = λ v is short. subst (λ read. Gives plain c.value_alone.result read) (alone_again c.args.kind c.args.bytes.now v is short) c.value_alone.ensures
+returns-clause-only c = λ v is. subst (λ read. Answers plain bson_refusal c.typed.result read) (alone_again c.args.kind c.args.bytes.now v is) c.typed.ensures

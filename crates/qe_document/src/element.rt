@@ -1,12 +1,14 @@
-//! The pieces of a document: each reader takes the bytes that are left of its document, with the document's last
-//! byte, and the place `until` behind them.
+//! The parts of an element: each reader takes the bytes that are left of its document, with the document's last byte,
+//! and the place `until` behind them.
 
 ghost use Rattle.std.specs.Prelude.{◌≡◌, ◌+◌, ◌-◌, ◌<◌, ◌≤◌, true, false, length, IfOk, IfSome, IfNone, option_map};
 ghost use Rattle.std.specs.Str.{is_utf8};
 ghost use Rattle.qe_document.specs.declared.fault.BsonFault.TheVariants.{At};
-ghost use Rattle.qe_document.specs.Answers.{Gives};
-ghost use Rattle.qe_document.specs.Reading.{is_type, begins_at, split_zero, name_at, fixed_at, count_at, string_at, binary_at, bool_at, frame_at};
+ghost use Rattle.qe_base.specs.Answers.{Answers};
+ghost use Rattle.qe_document.specs.Faults.{bson_refusal};
+ghost use Rattle.qe_document.specs.Reading.{begins_at, split_zero, name_at, fixed_at, count_at, string_at, binary_at, bool_at, frame_at};
 
+use crate::element_type::ElementType;
 use crate::fault::{BsonFault, BsonKind};
 use qe_base::{Bytes, Text};
 use std::alloc::Global;
@@ -21,17 +23,12 @@ pub(crate) fn at(until: usize, bytes: &[u8], kind: BsonKind) -> BsonFault
     }
 }
 
-fn is_type_byte(kind: u8) -> bool
-    ensures { result ≡ is_type kind }
-{
-    (0x01 <= kind && kind <= 0x05)
-        || (0x07 <= kind && kind <= 0x0a)
-        || (0x10 <= kind && kind <= 0x13)
-}
-
-/// The type byte of the next element, and what follows it, or none at the document's last byte.
-pub(crate) fn begins(until: usize, bytes: &[u8]) -> Result<Option<(u8, &[u8])>, BsonFault>
-    ensures { Gives (λ o. option_map (λ x. (x.0, x.1.now)) o) result (begins_at until bytes.now) }
+/// The type of the next element, and what follows its byte, or none at the document's last byte.
+pub(crate) fn begins(
+    until: usize,
+    bytes: &[u8],
+) -> Result<Option<(ElementType, &[u8])>, BsonFault>
+    ensures { Answers (λ o. option_map (λ x. (x.0, x.1.now)) o) bson_refusal result (begins_at until bytes.now) }
 {
     match bytes {
         [] => Err(at(until, bytes, BsonKind::NoTerminator)),
@@ -41,14 +38,14 @@ pub(crate) fn begins(until: usize, bytes: &[u8]) -> Result<Option<(u8, &[u8])>, 
             }
             Ok(None)
         }
-        [kind, rest @ ..] => {
-            if *kind == 0 {
+        [byte, rest @ ..] => {
+            if *byte == 0 {
                 return Err(at(until, bytes, BsonKind::LengthWrong));
             }
-            if !is_type_byte(*kind) {
-                return Err(at(until, bytes, BsonKind::TypeUnknown));
+            match ElementType::of(*byte) {
+                None => Err(at(until, bytes, BsonKind::TypeUnknown)),
+                Some(kind) => Ok(Some((kind, rest))),
             }
-            Ok(Some((*kind, rest)))
         }
     }
 }
@@ -59,7 +56,7 @@ pub(crate) fn fixed<const N: usize>(
     until: usize,
     bytes: &[u8],
 ) -> Result<([u8; N], &[u8]), BsonFault>
-    ensures { Gives (λ x. (x.0, x.1.now)) result (fixed_at N until bytes.now) }
+    ensures { Answers (λ x. (x.0, x.1.now)) bson_refusal result (fixed_at N until bytes.now) }
 {
     if bytes.len() <= N {
         return Err(at(until, bytes, BsonKind::LengthWrong));
@@ -79,7 +76,7 @@ pub(crate) fn count(
     extra: usize,
 ) -> Result<(usize, &[u8]), BsonFault>
     requires { extra < 6 }
-    ensures exact { Gives (λ x. (x.0, x.1.now)) result (count_at least extra until bytes.now) }
+    ensures exact { Answers (λ x. (x.0, x.1.now)) bson_refusal result (count_at least extra until bytes.now) }
     ensures within { IfOk result (λ x. (least ≤ x.0) × (x.0 + extra < length x.1.now + 4)) }
 {
     if bytes.len() <= 4 {
@@ -121,7 +118,7 @@ fn first_zero(bytes: &[u8]) -> Option<(&[u8], &[u8])>
 /// An element's name.
 #[tactic(auto, unfolding(crate::specs::Reading::name_at))]
 pub(crate) fn name(until: usize, bytes: &[u8]) -> Result<(&str, &[u8]), BsonFault>
-    ensures { Gives (λ x. (x.0.now, x.1.now)) result (name_at until bytes.now) }
+    ensures { Answers (λ x. (x.0.now, x.1.now)) bson_refusal result (name_at until bytes.now) }
 {
     match first_zero(bytes) {
         None => Err(at(until, bytes, BsonKind::NoTerminator)),
@@ -135,7 +132,7 @@ pub(crate) fn name(until: usize, bytes: &[u8]) -> Result<(&str, &[u8]), BsonFaul
 /// A string.
 #[tactic(auto, unfolding(crate::specs::Reading::string_at))]
 pub(crate) fn string(alloc: Global, until: usize, bytes: &[u8]) -> Result<(Text, &[u8]), BsonFault>
-    ensures { Gives (λ x. (x.0, x.1.now)) result (string_at until bytes.now) }
+    ensures { Answers (λ x. (x.0, x.1.now)) bson_refusal result (string_at until bytes.now) }
 {
     let (n, rest) = count(until, bytes, 1, 4)?;
     let (front, _) = rest.split_at(n - 1);
@@ -156,7 +153,7 @@ pub(crate) fn binary(
     until: usize,
     bytes: &[u8],
 ) -> Result<(u8, Bytes, &[u8]), BsonFault>
-    ensures { Gives (λ x. ((x.0, x.1), x.2.now)) result (binary_at until bytes.now) }
+    ensures { Answers (λ x. ((x.0, x.1), x.2.now)) bson_refusal result (binary_at until bytes.now) }
 {
     let (n, rest) = count(until, bytes, 0, 5)?;
     let subtype = rest[0];
@@ -168,7 +165,7 @@ pub(crate) fn binary(
 /// A bool.
 #[tactic(auto, unfolding(crate::specs::Reading::bool_at))]
 pub(crate) fn boolean(until: usize, bytes: &[u8]) -> Result<(bool, &[u8]), BsonFault>
-    ensures { Gives (λ x. (x.0, x.1.now)) result (bool_at until bytes.now) }
+    ensures { Answers (λ x. (x.0, x.1.now)) bson_refusal result (bool_at until bytes.now) }
 {
     let (one, rest) = fixed::<1>(until, bytes)?;
     if one[0] > 1 {
@@ -180,7 +177,7 @@ pub(crate) fn boolean(until: usize, bytes: &[u8]) -> Result<(bool, &[u8]), BsonF
 /// The bytes of an inner document behind its length, and what follows it.
 #[tactic(auto, unfolding(crate::specs::Reading::frame_at))]
 pub(crate) fn frame(until: usize, bytes: &[u8]) -> Result<(&[u8], &[u8]), BsonFault>
-    ensures { Gives (λ x. (x.0.now, x.1.now)) result (frame_at until bytes.now) }
+    ensures { Answers (λ x. (x.0.now, x.1.now)) bson_refusal result (frame_at until bytes.now) }
 {
     let (n, rest) = count(until, bytes, 5, 0)?;
     Ok(rest.split_at(n - 4))
