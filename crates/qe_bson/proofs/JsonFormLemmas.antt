@@ -14,7 +14,7 @@ use Rattle.serde_json.proofs.Views.{Entry, members_len-members_view}
 use Rattle.serde_json.specs.Data.{Data}
 use Rattle.serde_json.specs.Find.{as_object}
 use Rattle.serde_json.specs.View.{view, members_view}
-use Rattle.qe_bson.specs.JsonForms.{fits, whole_in, only_member, has_names}
+use Rattle.qe_bson.specs.JsonForms.{fits, whole_in, only_member, has_members}
 
 pub both : (a b : Bool) → (a && b) ≡ true → (a ≡ true) × (b ≡ true)
 both true true e = (refl, refl)
@@ -58,6 +58,6 @@ only_of_one (x ∷ []) e one first = let same : x ≡ e = cc in ap (λ (y : Entr
 only_of_one (x ∷ (y ∷ es)) e one first = absurd (omega arith)
 
 -- the names of an object are as many as its entries
-pub has_names-entries : (d : Data) (es : List Entry) (n count : ℕ) → Some (members_view es) ≡ as_object d → n ≡ length es → nat_eq n count ≡ has_names count d
-has_names-entries d es n count is_object counted =
+pub has_members-entries : (d : Data) (es : List Entry) (n count : ℕ) → Some (members_view es) ≡ as_object d → n ≡ length es → nat_eq n count ≡ has_members count d
+has_members-entries d es n count is_object counted =
     rw (← is_object) (ap (λ k. nat_eq k count) (counted ∙ sym (members_len-members_view es)))

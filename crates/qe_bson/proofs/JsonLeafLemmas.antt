@@ -18,7 +18,7 @@ use Rattle.serde_json.specs.Find.{of_integer}
 use Rattle.qe_document.specs.declared.value.Plain.TheVariants as p
 use Rattle.qe_bson.specs.JsonForms.{fits, whole_in, binary_at}
 use Rattle.qe_bson.specs.JsonReading.{value_at}
-use Rattle.qe_bson.specs.JsonRound.{are_bytes}
+use Rattle.qe_base.specs.Bytes.{are_bytes}
 use Rattle.qe_bson.specs.JsonWriting.{long, date, object_id, binary}
 use Rattle.qe_bson.proofs.JsonFormLemmas.{both}
 

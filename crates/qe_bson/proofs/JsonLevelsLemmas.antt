@@ -17,7 +17,7 @@ use Rattle.qe_document.specs.declared.value.Plain.{Plain}
 use Rattle.qe_bson.specs.declared.extended_json.fault.JsonFault.TheVariants.{TooDeep}
 use Rattle.qe_bson.specs.declared.extended_json.forms.Form.{Form}
 use Rattle.qe_bson.specs.declared.extended_json.forms.Form.TheVariants as form
-use Rattle.qe_bson.specs.JsonForms.{◌>>=◌, form_of, form_judged, long_form, whole_at, whole_in, has_names, binary_at, subtype_at, text_at, bytes_at, first_byte, date_at, value_in}
+use Rattle.qe_bson.specs.JsonForms.{◌>>=◌, form_of, form_judged, long_form, whole_at, whole_in, has_members, binary_at, subtype_at, member_text, bytes_at, first_byte, date_at, value_in}
 use Rattle.qe_bson.specs.JsonReading.{then, in_document, form_or, value_at, items_at, fields_at}
 use Rattle.qe_bson.proofs.JsonDeepLemmas.{form_member}
 use Rattle.qe_bson.proofs.JsonReadLemmas.{gave}
@@ -78,7 +78,7 @@ two_texts first second a b x y u w apart e f flat level = elim (picked first a b
 names_apart : codes "subType" ≡ codes "base64" → ⊥
 names_apart e = let lengths : false ≡ true = ap (λ name. nat_eq (length name) 6) e in cc
 
-pair_depth : (d u w : Data) → get (codes "subType") d ≡ Some u → get (codes "base64") d ≡ Some w → depth u ≡ 0 → depth w ≡ 0 → has_names 2 d ≡ true → (depth d ≤ 1) × (is_some (as_object d) ≡ true)
+pair_depth : (d u w : Data) → get (codes "subType") d ≡ Some u → get (codes "base64") d ≡ Some w → depth u ≡ 0 → depth w ≡ 0 → has_members 2 d ≡ true → (depth d ≤ 1) × (is_some (as_object d) ≡ true)
 pair_depth (object no_members) u w e f flat level two = cc
 pair_depth (object (member a x no_members)) u w e f flat level two = cc
 pair_depth (object (member a x (member b y no_members))) u w e f flat level two =
@@ -91,13 +91,13 @@ binary_depth : (d : Data) (b : ℕ × List ℕ) → binary_at d ≡ Some b → (
 unfolding binary_at
 binary_depth d b e =
     let subtype = find (subtype_at d) _ b e in
-    let text = find (text_at (codes "base64") d) _ b subtype.then_is in
+    let text = find (member_text (codes "base64") d) _ b subtype.then_is in
     let bytes = find (result_ok (decode_of standard text.value)) _ b text.then_is in
     let byte = find (get (codes "subType") d >>= bytes_at 1) first_byte subtype.value subtype.found in
     let digits = find (get (codes "subType") d) (bytes_at 1) byte.value byte.found in
     let said = find (as_str digits.value) (λ t. result_ok (decode_sized t 1)) byte.value digits.then_is in
     let coded = find (get (codes "base64") d) as_str text.value text.found in
-    pair_depth d digits.value coded.value digits.found coded.found (text_depth digits.value said.value said.found) (text_depth coded.value text.value coded.then_is) (tested (has_names 2 d) (subtype.value, bytes.value) b bytes.then_is)
+    pair_depth d digits.value coded.value digits.found coded.found (text_depth digits.value said.value said.found) (text_depth coded.value text.value coded.then_is) (tested (has_members 2 d) (subtype.value, bytes.value) b bytes.then_is)
   where
     tested : (test : Bool) (made b : ℕ × List ℕ) → cond test (Some made) None ≡ Some b → test ≡ true
     tested true made b e = refl

@@ -13,7 +13,8 @@ use Rattle.qe_document.specs.Names.{is_named, Distinct}
 use Rattle.qe_document.specs.declared.value.Plain.{Plain}
 use Rattle.qe_bson.specs.declared.extended_json.fault.JsonFault.{JsonFault}
 use Rattle.qe_bson.specs.declared.extended_json.fault.JsonFault.TheVariants.{BadNumber, BadForm, TooDeep, Unprintable, NoMemory}
-use Rattle.qe_bson.specs.JsonAnswers.{Fails}
+use Rattle.qe_base.specs.Answers.{Refuses}
+use Rattle.qe_bson.specs.JsonFaults.{json_refusal}
 use Rattle.qe_bson.specs.JsonReading.{then, value_at, items_at, fields_at}
 
 -- the items before those that are read of the rest
@@ -34,7 +35,7 @@ with_fields-push front f (Ok fs) = ap Ok (append_assoc front (f ∷ []) fs)
 with_fields-push front f (Err fault) = refl
 
 -- a fault of a part is the fault of the whole
-pub fails : {A B : Type 0} (fault : JsonFault) (part : Result A JsonFault) (whole : Result B JsonFault) → ((f : JsonFault) → part ≡ Err f → whole ≡ Err f) → Fails fault part → Fails fault whole
+pub fails : {A B : Type 0} (fault : JsonFault) (part : Result A JsonFault) (whole : Result B JsonFault) → ((f : JsonFault) → part ≡ Err f → whole ≡ Err f) → Refuses (json_refusal fault) part → Refuses (json_refusal fault) whole
 fails NoMemory part whole lift e = tt
 fails BadNumber part whole lift e = lift BadNumber e
 fails BadForm part whole lift e = lift BadForm e

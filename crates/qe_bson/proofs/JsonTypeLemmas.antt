@@ -11,9 +11,11 @@ use Rattle.qe_document.specs.declared.value.Plain.TheVariants as p
 use Rattle.qe_document.specs.declared.value.Value.{Value}
 use Rattle.qe_document.specs.declared.value.Value.TheVariants as v
 use Rattle.qe_bson.specs.declared.extended_json.fault.JsonFault.{JsonFault}
-use Rattle.qe_bson.specs.JsonAnswers.{Gives}
+use Rattle.qe_base.specs.Answers.{Answers}
+use Rattle.qe_bson.specs.JsonFaults.{json_refusal}
 use Rattle.qe_bson.specs.JsonReading.{value_at}
-use Rattle.qe_bson.specs.JsonRound.{are_bytes, typed, typed_step, parts_typed, fields_typed, items_typed, ordered, levels}
+use Rattle.qe_base.specs.Bytes.{are_bytes}
+use Rattle.qe_bson.specs.JsonRound.{typed, typed_step, parts_typed, fields_typed, items_typed, ordered, levels}
 use Rattle.qe_bson.specs.JsonWriting.{json_step, opened}
 use Rattle.qe_bson.proofs.JsonFormLemmas.{both}
 use Rattle.qe_bson.proofs.JsonPrintLemmas.{json_of-plain}
@@ -62,6 +64,6 @@ fields_typed-more (f ∷ fs) (suc i) x is known new =
     let parts = both (typed f.1) (fields_typed (take i fs)) known in and_true (typed f.1) _ parts.0 (fields_typed-more fs i x is parts.1 new)
 
 -- what a call printed is read as the value
-pub again : (r : Result Json JsonFault) (x : Value) → Gives view r (json_step (opened x)) → OnOk r (typed_step (parts_typed x) ≡ true) → IfOk r (λ json. ordered (plain x) ≡ true → levels (plain x) ≤ 100 → value_at 100 (view json) ≡ Ok (plain x))
+pub again : (r : Result Json JsonFault) (x : Value) → Answers view json_refusal r (json_step (opened x)) → OnOk r (typed_step (parts_typed x) ≡ true) → IfOk r (λ json. ordered (plain x) ≡ true → levels (plain x) ≤ 100 → value_at 100 (view json) ≡ Ok (plain x))
 again (Ok json) x given typing = λ order deep. reads_back (plain x) 100 (view json) (json_of-plain x ∙ given) (typed-plain x ∙ typing) order deep
 again (Err fault) x given typing = tt

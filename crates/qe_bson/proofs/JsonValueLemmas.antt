@@ -10,7 +10,8 @@ use Rattle.qe_document.specs.declared.value.Plain.TheOpen.{Plain-F}
 use Rattle.qe_document.specs.declared.value.Plain.TheVariants as p
 use Rattle.qe_bson.specs.declared.extended_json.fault.JsonFault.{JsonFault}
 use Rattle.qe_bson.specs.JsonReading.{value_at}
-use Rattle.qe_bson.specs.JsonRound.{are_bytes, typed, typed_step, ordered, ordered_step, levels, levels_step}
+use Rattle.qe_base.specs.Bytes.{are_bytes}
+use Rattle.qe_bson.specs.JsonRound.{typed, typed_step, ordered, ordered_step, levels, levels_step}
 use Rattle.qe_bson.specs.JsonWriting.{long, date, object_id, binary, json_of, json_step}
 use Rattle.qe_bson.proofs.JsonAgainLemmas.{ReadsBack, Known, bare}
 use Rattle.qe_bson.proofs.JsonFormLemmas.{both}

@@ -10,4 +10,5 @@ pub mod JsonReadLemmas
 pub mod JsonRoundLemmas
 pub mod JsonTypeLemmas
 pub mod JsonValueLemmas
+pub mod RunLemmas
 pub mod StreamLemmas

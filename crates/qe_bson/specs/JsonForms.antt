@@ -63,8 +63,8 @@ abbrev pub form_seen : Form × Bor Value → Form × Data
 form_seen x = (x.0, view x.1.now)
 
 -- the text at a name
-abbrev pub text_at : List ℕ → Data → Option (List ℕ)
-text_at name d = get name d >>= as_str
+abbrev pub member_text : List ℕ → Data → Option (List ℕ)
+member_text name d = get name d >>= as_str
 
 -- so many bytes, as two hex digits each
 abbrev pub bytes_at : ℕ → Data → Option (List ℕ)
@@ -82,8 +82,8 @@ abbrev pub date_at : Data → Option ℤ
 date_at d = as_object d >>= form_of >>= long_form
 
 -- an object of so many names
-abbrev pub has_names : ℕ → Data → Bool
-has_names count d = option_map_or (λ ms. members_len ms == count) (as_object d) false
+abbrev pub has_members : ℕ → Data → Bool
+has_members count d = option_map_or (λ ms. members_len ms == count) (as_object d) false
 
 abbrev pub first_byte : List ℕ → Option ℕ
 first_byte bytes = Some (slice_index bytes 0)
@@ -95,9 +95,9 @@ subtype_at d = get (codes "subType") d >>= bytes_at 1 >>= first_byte
 unfoldable pub binary_at : Data → Option (ℕ × List ℕ)
 binary_at d = do
   subtype ← subtype_at d
-  text ← text_at (codes "base64") d
+  text ← member_text (codes "base64") d
   bytes ← result_ok (decode_of standard text)
-  if has_names 2 d then Some (subtype, bytes) else None
+  if has_members 2 d then Some (subtype, bytes) else None
 
 -- the value of a form, where this is its content
 abbrev pub value_in : Form → Data → Option Plain

@@ -7,6 +7,7 @@ use Rattle.qe_document.specs.declared.value.Plain.TheVariants as p
 use Rattle.qe_bson.specs.declared.extended_json.fault.JsonFault.{JsonFault}
 use Rattle.qe_bson.specs.declared.extended_json.fault.JsonFault.TheVariants.{TooDeep}
 use Rattle.qe_bson.specs.declared.extended_json.forms.Form.{Form}
+use Rattle.qe_document.specs.Limits.{most_levels}
 use Rattle.qe_bson.specs.JsonForms.{form_of, form_value, number_value}
 
 -- the second step, where the first gave a value
@@ -45,12 +46,12 @@ unfoldable mutual
   fields_at room no_members = Ok []
   fields_at room (member name d ms) = then (λ v. then (λ fs. Ok ((name, v) ∷ fs)) (fields_at room ms)) (value_at room d)
 
-abbrev pub array_at : ℕ → Items → Result Plain JsonFault
-array_at room ds = value_at room (array ds)
+abbrev pub array_value : ℕ → Items → Result Plain JsonFault
+array_value room ds = value_at room (array ds)
 
-abbrev pub object_at : ℕ → Members → Result Plain JsonFault
-object_at room ms = value_at room (object ms)
+abbrev pub object_value : ℕ → Members → Result Plain JsonFault
+object_value room ms = value_at room (object ms)
 
--- the value of JSON of at most 100 levels
+-- the value of JSON that is not too deep
 abbrev pub value_of_json : Data → Result Plain JsonFault
-value_of_json d = value_at 100 d
+value_of_json d = value_at most_levels d

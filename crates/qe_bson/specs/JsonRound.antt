@@ -3,6 +3,7 @@ use Rattle.std.specs.Prelude.{ℕ, suc, max, ◌==◌, ◌&&◌, nat_lt, Bool, t
 use Rattle.std.specs.Cmp.Lexicographic.{slice_cmp}
 use Rattle.std.specs.List.{list_all}
 use Rattle.std.specs.Ordering.{nat_cmp, is_lt}
+use Rattle.qe_base.specs.Bytes.{are_bytes}
 use Rattle.qe_document.specs.declared.value.Plain.{Plain, fold-Plain}
 use Rattle.qe_document.specs.declared.value.Plain.TheOpen.{Plain-F}
 use Rattle.qe_document.specs.declared.value.Value.{Value}
@@ -12,9 +13,6 @@ use Rattle.qe_bson.specs.JsonForms.{fits, form_named}
 abbrev pub all_true : List Bool → Bool
 all_true [] = true
 all_true (b ∷ bs) = b && all_true bs
-
-abbrev pub are_bytes : List ℕ → Bool
-are_bytes bytes = list_all (λ b. nat_lt b 256) bytes
 
 -- numbers and bytes are in the ranges of their types, as they are in every value of the code
 abbrev pub typed_step : Plain-F Bool → Bool

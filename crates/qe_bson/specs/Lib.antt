@@ -1,11 +1,16 @@
-pub mod JsonAnswers
+pub mod JsonFaults
 pub mod JsonForms
 pub mod JsonReading
 pub mod JsonRound
 pub mod JsonWriting
+pub mod Runs
 pub mod Stream
+pub use Rattle.qe_document.specs.Faults
+pub use Rattle.qe_document.specs.Limits
+pub use Rattle.qe_document.specs.Measures
 pub use Rattle.qe_document.specs.Names
 pub use Rattle.qe_document.specs.Reading
 pub use Rattle.qe_document.specs.Spelling
+pub use Rattle.qe_document.specs.Types
 pub use Rattle.qe_document.specs.Views
 pub use Rattle.qe_document.specs.Writing

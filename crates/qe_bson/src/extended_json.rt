@@ -1,3 +1,5 @@
+//! Values as JSON, in the forms of MongoDB Extended JSON v2.
+
 mod fault;
 mod forms;
 mod laws;

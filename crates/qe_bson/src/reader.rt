@@ -1,9 +1,11 @@
 //! Documents that come in pieces.
 
-ghost use Rattle.std.specs.Prelude.{◌≡◌, ℕ, List, [], ◌++◌, None, IsTrue, ◌↔◌};
+ghost use Rattle.std.specs.Prelude.{◌≡◌, ℕ, List, [], ◌++◌, Option, None, IsTrue, ◌↔◌};
 ghost use Rattle.qe_document.specs.declared.fault.BsonKind.TheVariants.{Short};
+ghost use Rattle.qe_document.specs.declared.fault.BsonFault.{BsonFault};
 ghost use Rattle.qe_document.specs.declared.fault.BsonFault.TheVariants.{At};
 ghost use Rattle.qe_document.specs.Reading.{document_at};
+ghost use Rattle.qe_bson.specs.Runs.{Fields, State, Runs, joined, Begin_with, Ends};
 ghost use Rattle.qe_bson.specs.Stream.{IsShort, Takes, Feeds, Finishes};
 
 use qe_document::{BsonFault, BsonKind, Document, decode};
@@ -31,7 +33,8 @@ impl Model for Reader {
 
     ghost view = { λ r. (r.held.items, r.fault) };
 
-    ghost use Rattle.qe_bson.specs.Stream.{IsWaiting};
+    ghost use Rattle.qe_bson.specs.Runs.{Fields, State, Runs, joined, Begin_with, Ends};
+ghost use Rattle.qe_bson.specs.Stream.{IsWaiting};
 
     ghost invariant = { λ r. IsWaiting (r.held.items, r.fault) };
 }
@@ -153,8 +156,15 @@ impl Reader {
     }
 }
 
-/// What bytes decide, a document or a fault, stays decided whatever bytes follow. With the contract of `feed` it
-/// doesn't matter how a stream is cut: each document is the one that `decode` gives of the whole that is left.
+/// What bytes decide, a document or a fault, stays decided whatever bytes follow.
 pub fn more_bytes_leave_what_is_decided()
     ensures { (front more : List ℕ) → ¬ IsShort front → document_at (front ++ more) ≡ document_at front }
+{}
+
+/// However a stream is cut into pieces: a new reader that is fed them one after another, and again what is left of each,
+/// gives the documents that `decode` gives of the whole, one after another, up to its first fault, and holds what is left.
+pub fn a_cut_stream_gives_the_documents_of_the_whole()
+    ensures { (pieces : List (List ℕ)) (documents : List Fields) (stop : Option BsonFault) (to : State)
+        → Runs ([], None) to pieces documents stop
+        → (rest : List ℕ) × Begin_with (joined pieces) documents rest × Ends rest stop to }
 {}

@@ -5,6 +5,7 @@ use Rattle.std.specs.List.{flat_map}
 use Rattle.hex.specs.Hex.{encode_lower}
 use Rattle.uuid.specs.Text.{hyphenated_text, lower}
 use Rattle.qe_document.specs.Spelling.{spelled}
+use Rattle.qe_document.specs.Types.{type_byte}
 use Rattle.qe_document.specs.declared.value.Plain.{Plain}
 use Rattle.qe_payload.specs.Elements.{Element}
 
@@ -31,7 +32,7 @@ parts_from part place (item ∷ items) = part place item ++ parts_from part (pla
 
 -- a value that is carried unread: its type in two hex digits, a colon, and its bytes
 unfoldable pub carried_text : Plain → List ℕ
-carried_text value = encode_lower ((spelled value).kind ∷ []) ++ (codes ":" ++ encode_lower (spelled value).bytes)
+carried_text value = encode_lower (type_byte (spelled value).kind ∷ []) ++ (codes ":" ++ encode_lower (spelled value).bytes)
 
 abbrev pub carried_part : Element → List ℕ
 carried_part element = named element.0 (carried_text element.1)

@@ -1,3 +1,5 @@
+//! Why JSON is no value, or a value has no JSON.
+
 use qe_base::NoMemory;
 use std::alloc::{AllocError, AllocFailed};
 use thiserror::Error;

@@ -6,9 +6,10 @@ ghost use Rattle.base64.specs.Engines.{standard};
 ghost use Rattle.base64.specs.GeneralPurpose.{decode_of};
 ghost use Rattle.serde_json.specs.View.{view, members_view, number_view};
 ghost use Rattle.qe_document.specs.Views.{plain};
-ghost use Rattle.qe_bson.specs.JsonAnswers.{Gives};
+ghost use Rattle.qe_base.specs.Answers.{Answers};
+ghost use Rattle.qe_bson.specs.JsonFaults.{json_refusal};
 ghost use Rattle.qe_bson.specs.JsonForms.{form_named, only_member, member_seen, form_of, form_seen};
-ghost use Rattle.qe_bson.specs.JsonForms.{whole_in, whole_at, bytes_at, date_at, has_names, text_at, subtype_at, binary_at};
+ghost use Rattle.qe_bson.specs.JsonForms.{whole_in, whole_at, bytes_at, date_at, has_members, member_text, subtype_at, binary_at};
 ghost use Rattle.qe_bson.specs.JsonForms.{value_in, form_value, number_value};
 
 use crate::Value;
@@ -135,8 +136,8 @@ fn base64_of(alloc: Global, text: &str) -> Result<Option<Bytes>, NoMemory>
 }
 
 // The object has so many names.
-fn has_names(json: &Json, count: usize) -> bool
-    ensures { result ≡ has_names count (view json.now) }
+fn has_members(json: &Json, count: usize) -> bool
+    ensures { result ≡ has_members count (view json.now) }
 {
     match json.as_object() {
         Some(members) => members.len() == count,
@@ -151,8 +152,8 @@ fn subtype_at(json: &Json) -> Option<u8>
     Some(subtype)
 }
 
-fn text_at<'a>(json: &'a Json, name: &str) -> Option<&'a str>
-    ensures { option_map (λ t. t.now) result ≡ text_at name.now (view json.now) }
+fn member_text<'a>(json: &'a Json, name: &str) -> Option<&'a str>
+    ensures { option_map (λ t. t.now) result ≡ member_text name.now (view json.now) }
 {
     json.get(name)?.as_str()
 }
@@ -165,13 +166,13 @@ fn binary_at(alloc: Global, json: &Json) -> Result<Option<(u8, Bytes)>, NoMemory
     let Some(subtype) = subtype_at(json) else {
         return Ok(None);
     };
-    let Some(text) = text_at(json, "base64") else {
+    let Some(text) = member_text(json, "base64") else {
         return Ok(None);
     };
     let Some(bytes) = base64_of(alloc, text)? else {
         return Ok(None);
     };
-    if !has_names(json, 2) {
+    if !has_members(json, 2) {
         return Ok(None);
     }
     Ok(Some((subtype, bytes)))
@@ -200,7 +201,7 @@ pub(crate) fn form_value(
     json: &Json,
     room: u32,
 ) -> Result<Value, JsonFault>
-    ensures { Gives plain result (form_value room (form, view json.now)) }
+    ensures { Answers plain json_refusal result (form_value room (form, view json.now)) }
 {
     let Some(value) = value_in(alloc, form, json)? else {
         return Err(JsonFault::BadForm);
@@ -213,7 +214,7 @@ pub(crate) fn form_value(
 
 /// The value of a JSON number.
 pub(crate) fn number_of(number: &Number) -> Result<Value, JsonFault>
-    ensures { Gives plain result (number_value (number_view number.now)) }
+    ensures { Answers plain json_refusal result (number_value (number_view number.now)) }
 {
     let Some(n) = number.as_i64() else {
         return Err(JsonFault::BadNumber);

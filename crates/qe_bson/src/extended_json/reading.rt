@@ -3,24 +3,22 @@
 ghost use Rattle.std.specs.Prelude.{◌≡◌};
 ghost use Rattle.serde_json.specs.View.{view, items_view, members_view};
 ghost use Rattle.qe_document.specs.Views.{plain};
-ghost use Rattle.qe_bson.specs.JsonAnswers.{Gives};
-ghost use Rattle.qe_bson.specs.JsonReading.{value_at, array_at, object_at, items_at, fields_at, value_of_json};
+ghost use Rattle.qe_base.specs.Answers.{Answers};
+ghost use Rattle.qe_bson.specs.JsonFaults.{json_refusal};
+ghost use Rattle.qe_bson.specs.JsonReading.{value_at, array_value, object_value, items_at, fields_at, value_of_json};
 
 use crate::extended_json::fault::JsonFault;
 use crate::extended_json::forms::{Form, form_value, number_of};
-use crate::{Document, Value, Values};
+use crate::{Document, MOST_LEVELS, Value, Values};
 use qe_base::Text;
 use serde_json::{Map, Value as Json};
 use std::alloc::Global;
-
-/// The greatest number of levels of objects and arrays.
-const LEVELS: u32 = 100;
 
 // A value, where so many levels are left for objects and arrays.
 #[cycle(read)]
 #[tactic(auto, unfolding(crate::specs::JsonReading::value_at))]
 fn value_of(alloc: Global, json: &Json, room: u32) -> Result<Value, JsonFault>
-    ensures { Gives plain result (value_at room (view json.now)) }
+    ensures { Answers plain json_refusal result (value_at room (view json.now)) }
 {
     match json {
         Json::Null => Ok(Value::Null),
@@ -35,7 +33,7 @@ fn value_of(alloc: Global, json: &Json, room: u32) -> Result<Value, JsonFault>
 #[cycle(read)]
 #[tactic(auto, unfolding(crate::specs::JsonReading::value_at))]
 fn array_of(alloc: Global, items: &Vec<Json>, room: u32) -> Result<Value, JsonFault>
-    ensures { Gives plain result (array_at room (items_view items.now.items)) }
+    ensures { Answers plain json_refusal result (array_value room (items_view items.now.items)) }
 {
     if room == 0 {
         return Err(JsonFault::TooDeep);
@@ -48,7 +46,7 @@ fn array_of(alloc: Global, items: &Vec<Json>, room: u32) -> Result<Value, JsonFa
 #[cycle(read)]
 #[tactic(auto, unfolding(crate::specs::JsonReading::value_at))]
 fn object_of(alloc: Global, members: &Map<String, Json>, room: u32) -> Result<Value, JsonFault>
-    ensures { Gives plain result (object_at room (members_view members.now.entries)) }
+    ensures { Answers plain json_refusal result (object_value room (members_view members.now.entries)) }
 {
     if room == 0 {
         return Err(JsonFault::TooDeep);
@@ -62,7 +60,7 @@ fn object_of(alloc: Global, members: &Map<String, Json>, room: u32) -> Result<Va
 
 #[cycle(read)]
 fn items_of(alloc: Global, items: &Vec<Json>, room: u32) -> Result<Values, JsonFault>
-    ensures { Gives (λ vs. vs) result (items_at room (items_view items.now.items)) }
+    ensures { Answers (λ vs. vs) json_refusal result (items_at room (items_view items.now.items)) }
 {
     let mut values = Values::new(alloc);
     for item in items {
@@ -73,7 +71,7 @@ fn items_of(alloc: Global, items: &Vec<Json>, room: u32) -> Result<Values, JsonF
 
 #[cycle(read)]
 fn fields_of(alloc: Global, members: &Map<String, Json>, room: u32) -> Result<Document, JsonFault>
-    ensures { Gives (λ fs. fs) result (fields_at room (members_view members.now.entries)) }
+    ensures { Answers (λ fs. fs) json_refusal result (fields_at room (members_view members.now.entries)) }
 {
     let mut fields = Vec::new(alloc);
     for (name, member) in members.iter() {
@@ -86,7 +84,7 @@ fn fields_of(alloc: Global, members: &Map<String, Json>, room: u32) -> Result<Do
 /// The value of JSON in the forms of MongoDB Extended JSON v2, or the first fault that is met: at an object or an
 /// array `TooDeep`, then `BadForm`, then its parts in order.
 pub fn from_json(alloc: Global, json: &Json) -> Result<Value, JsonFault>
-    ensures exact { Gives plain result (value_of_json (view json.now)) }
+    ensures exact { Answers plain json_refusal result (value_of_json (view json.now)) }
 {
-    value_of(alloc, json, LEVELS)
+    value_of(alloc, json, MOST_LEVELS)
 }

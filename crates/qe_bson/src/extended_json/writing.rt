@@ -8,12 +8,15 @@ ghost use Rattle.serde_json.specs.Data.{number};
 ghost use Rattle.serde_json.specs.Find.{of_integer};
 ghost use Rattle.serde_json.specs.View.{view};
 ghost use Rattle.serde_json.specs.Written.{has_float};
+ghost use Rattle.qe_document.specs.Limits.{most_levels};
 ghost use Rattle.qe_document.specs.Views.{plain};
 ghost use Rattle.qe_document.specs.declared.value.Plain.TheOpen.{Plain-F};
-ghost use Rattle.qe_bson.specs.JsonAnswers.{Gives};
+ghost use Rattle.qe_base.specs.Answers.{Answers};
+ghost use Rattle.qe_bson.specs.JsonFaults.{json_refusal};
 ghost use Rattle.qe_bson.specs.JsonForms.{fits};
 ghost use Rattle.qe_bson.specs.JsonReading.{value_of_json};
-ghost use Rattle.qe_bson.specs.JsonRound.{are_bytes, typed_step, parts_typed, fields_typed, items_typed};
+ghost use Rattle.qe_base.specs.Bytes.{are_bytes};
+ghost use Rattle.qe_bson.specs.JsonRound.{typed_step, parts_typed, fields_typed, items_typed};
 ghost use Rattle.qe_bson.specs.JsonRound.{ordered, levels};
 ghost use Rattle.qe_bson.specs.JsonWriting.{long, date, object_id, binary};
 ghost use Rattle.qe_bson.specs.JsonWriting.{json_of, json_field, json_array, json_object, json_step, opened};
@@ -81,7 +84,7 @@ fn binary(alloc: Global, subtype: u8, bytes: &[u8]) -> Result<Json, AllocError>
 
 #[cycle(print)]
 fn value_json(alloc: Global, value: &Value) -> Result<Json, JsonFault>
-    ensures exact { Gives view result (json_step (opened value.now)) }
+    ensures exact { Answers view json_refusal result (json_step (opened value.now)) }
     ensures typed { OnOk result (typed_step (parts_typed value.now) ≡ true) }
 {
     match value {
@@ -101,7 +104,7 @@ fn value_json(alloc: Global, value: &Value) -> Result<Json, JsonFault>
 
 #[cycle(print)]
 fn array_json(alloc: Global, items: &Values) -> Result<Json, JsonFault>
-    ensures exact { Gives view result (json_array (map json_of items.now)) }
+    ensures exact { Answers view json_refusal result (json_array (map json_of items.now)) }
     ensures typed { OnOk result (items_typed items.now ≡ true) }
 {
     let mut values = Vec::new(alloc);
@@ -113,7 +116,7 @@ fn array_json(alloc: Global, items: &Values) -> Result<Json, JsonFault>
 
 #[cycle(print)]
 fn document_json(alloc: Global, document: &Document) -> Result<Json, JsonFault>
-    ensures exact { Gives view result (json_object (map json_field document.now)) }
+    ensures exact { Answers view json_refusal result (json_object (map json_field document.now)) }
     ensures typed { OnOk result (fields_typed document.now ≡ true) }
 {
     let mut members = Map::new(alloc);
@@ -128,11 +131,11 @@ fn document_json(alloc: Global, document: &Document) -> Result<Json, JsonFault>
 /// The JSON of a value in the forms of MongoDB Extended JSON v2. It is `Unprintable` where a double, a decimal or a
 /// timestamp stands in the value.
 pub fn to_json(alloc: Global, value: &Value) -> Result<Json, JsonFault>
-    ensures exact { Gives view result (json_of (plain value.now)) }
+    ensures exact { Answers view json_refusal result (json_of (plain value.now)) }
     // So `to_string` has an exact text of it.
     ensures text { IfOk result (λ json. has_float (view json) ≡ false) }
     // What was printed is read as the value, where names rise, none is a form's alone, and 100 levels are enough.
-    ensures again { IfOk result (λ json. ordered (plain value.now) ≡ true → levels (plain value.now) ≤ 100
+    ensures again { IfOk result (λ json. ordered (plain value.now) ≡ true → levels (plain value.now) ≤ most_levels
         → value_of_json (view json) ≡ Ok (plain value.now)) }
 {
     value_json(alloc, value)
