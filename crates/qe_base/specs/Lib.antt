@@ -1,6 +1,7 @@
 pub mod Answers
 pub mod Bytes
 pub mod Faults
+pub mod Lines
 pub mod Memory
 pub mod Status
 pub mod Transfer
