@@ -1,3 +1,5 @@
+//! Documents to read and to write.
+
 use crate::work::{Outcome, last_block};
 use qe_base::{Bytes, NoMemory, Text};
 use qe_document::{Document, Value, decode, encode};

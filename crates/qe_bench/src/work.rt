@@ -1,3 +1,5 @@
+//! The kinds of work, each done many times.
+
 use crate::documents::{decoded, encoded, mixed, nested};
 use hex::FromHex;
 use qe_aes::Aes256;

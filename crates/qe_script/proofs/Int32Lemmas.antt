@@ -1,18 +1,20 @@
 -- The numbers of a script's commands are int32s.
-use Rattle.std.proofs.Common.{◌≡◌, ◌^◌, ℕ, ℤ, pos, negsuc, List, [], ◌∷◌, Bool, true, false, cond, Option, Some, None, Result, Ok, Err, refl, subst}
+use Rattle.std.proofs.Common.{◌≡◌, ◌^◌, ℕ, ℤ, pos, negsuc, List, [], ◌∷◌, Bool, true, false, cond, Option, Some, None, Result, Ok, Err, IfOk, refl, subst}
 use Rattle.std.proofs.lemmas.Bool.{ltb-true}
 use Rattle.std.specs.Int.{w32}
 use Rattle.std.specs.Prelude.{FitsSigned, nat_lt, ◌&&◌, codes, option_map}
 use Rattle.serde_json.specs.Data.{Data}
 use Rattle.serde_json.specs.Find.{get, as_number, as_i64}
+use Rattle.qe_base.specs.Answers.{Answers}
+use Rattle.qe_base.specs.Lines.{placed_lines}
 use Rattle.qe_script.specs.declared.script.Command.{Command}
 use Rattle.qe_script.specs.declared.script.Command.TheVariants.{Insert, Find, Ids}
 use Rattle.qe_script.specs.declared.script.Header.{Header}
 use Rattle.qe_script.specs.declared.script.Script.{Script}
 use Rattle.qe_script.specs.declared.script.ScriptFault.{ScriptFault}
 use Rattle.qe_script.specs.Forms.{◌>>=◌, has_names, has_text, fit_int32, int32_at, insert_of, asked_of, command_of, json_of}
-use Rattle.qe_script.specs.Lines.{lines_of, numbered}
-use Rattle.qe_script.specs.Script.{on_ok, or_fault, line_command, line_header, commands_of, script_with, script_from, script_of, FitsInt32, AllInt32}
+use Rattle.qe_script.specs.Lines.{numbered}
+use Rattle.qe_script.specs.Script.{on_ok, or_fault, line_command, line_header, commands_of, script_with, script_from, script_of, kept_fault, FitsInt32, AllInt32}
 
 -- what a chain of steps gave, its last step gave
 pub record Gave {A B : Type 0} (first : Option A) (next : A → Option B) (last : B) : Type 0 where
@@ -118,4 +120,10 @@ script_from-int32 (line ∷ lines) script e = first (or_fault line.0 (line_heade
 
 pub script_of-int32 : (bytes : List ℕ) (script : Script) → script_of bytes ≡ Ok script → AllInt32 script.commands
 unfolding script_of
-script_of-int32 bytes script e = script_from-int32 (numbered 1 (lines_of bytes)) script e
+script_of-int32 bytes script e = script_from-int32 (numbered (placed_lines bytes)) script e
+
+-- a script that is answered
+pub answer-int32 : (answer : Result Script ScriptFault) (bytes : List ℕ) → Answers (λ x. x) kept_fault answer (script_of bytes)
+    → IfOk answer (λ script. AllInt32 script.commands)
+answer-int32 (Ok script) bytes is = script_of-int32 bytes script is
+answer-int32 (Err fault) bytes is = tt

@@ -1,4 +1,3 @@
 pub mod FormLemmas
 pub mod Int32Lemmas
-pub mod LineLemmas
 pub mod ScriptLemmas

@@ -1,11 +1,12 @@
 -- A script that is read line by line.
 use Rattle.std.proofs.Common.{◌≡◌, ℕ, List, [], ◌∷◌, ◌++◌, Result, Ok, Err, refl, ap, append_assoc, append-nil}
+use Rattle.qe_base.specs.Answers.{Refuses, Answers}
 use Rattle.qe_script.specs.declared.script.Command.{Command}
 use Rattle.qe_script.specs.declared.script.Header.{Header}
 use Rattle.qe_script.specs.declared.script.ScriptFault.{ScriptFault}
 use Rattle.qe_script.specs.declared.script.ScriptFault.TheVariants.{At, NoMemory}
 use Rattle.qe_script.specs.declared.script.ScriptKind.TheVariants.{NotBuilt}
-use Rattle.qe_script.specs.Script.{Gives, or_fault, on_ok, line_header, line_command, commands_of, script_with, script_from}
+use Rattle.qe_script.specs.Script.{kept_fault, or_fault, on_ok, line_header, line_command, commands_of, script_with, script_from}
 
 abbrev pub Lines : Type 0
 Lines = List (ℕ × List ℕ)
@@ -41,17 +42,17 @@ pub behind-fault : (path : List ℕ) (done : List Command) (lines rest : Lines) 
 unfolding commands_of
 behind-fault path done lines rest line fault first is_fault = rw (first, is_fault)
 
--- the answer that is due is given
-pub gives : {A : Type 0} (answer due : Result A ScriptFault) → due ≡ answer → Gives answer due
-gives (Ok x) due e = e
-gives (Err (At line kind)) due e = e
-gives (Err NoMemory) due e = tt
+-- the answer that is due is one
+pub answers : {A : Type 0} (answer due : Result A ScriptFault) → due ≡ answer → Answers (λ x. x) kept_fault answer due
+answers (Ok x) due e = e
+answers (Err (At line kind)) due e = e
+answers (Err NoMemory) due e = tt
 
 -- a fault is passed on, want of memory too
-pub gives_on : {A B : Type 0} (fault : ScriptFault) (inner : Result A ScriptFault) (due : Result B ScriptFault) → Gives (Err fault) inner
-    → (inner ≡ Err fault → due ≡ Err fault) → Gives (Err fault) due
-gives_on (At line kind) inner due given on = on given
-gives_on NoMemory inner due given on = tt
+pub refuses_on : {A B : Type 0} (fault : ScriptFault) (inner : Result A ScriptFault) (due : Result B ScriptFault) → Refuses (kept_fault fault) inner
+    → (inner ≡ Err fault → due ≡ Err fault) → Refuses (kept_fault fault) due
+refuses_on (At line kind) inner due given on = on given
+refuses_on NoMemory inner due given on = tt
 
 pub script-no_lines : (lines : Lines) → lines ≡ [] → script_from lines ≡ Err (At 1 NotBuilt)
 unfolding script_from

@@ -54,9 +54,13 @@ int32_at name d = get name d >>= as_number >>= as_i64 >>= fit_int32
 abbrev pub has_text : List ℕ → List ℕ → Data → Bool
 has_text name text d = option_map_or (λ found. bytes_eq found text) (text_at name d) false
 
+-- how many bytes a path may have
+abbrev pub path_limit : ℕ
+path_limit = 64
+
 -- 1 to 64 ASCII letters, digits and `_`, beginning with a letter
 abbrev pub is_path : List ℕ → Bool
-is_path text = nat_le (length text) 64 && is_ascii_alphabetic (slice_index text 0)
+is_path text = nat_le (length text) path_limit && is_ascii_alphabetic (slice_index text 0)
     && list_all (λ byte. is_ascii_alphanumeric byte || byte == 95) text
 
 -- the number at this name is the integer 0

@@ -1,5 +1,4 @@
 pub mod Forms
 pub mod Header
-pub mod Left
 pub mod Lines
 pub mod Script

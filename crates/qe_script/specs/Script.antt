@@ -1,6 +1,7 @@
 -- What a script is: its first line that isn't blank is the header, each other one a command.
 use Rattle.std.specs.Prelude.{◌≡◌, ℕ, List, [], ◌∷◌, Option, Some, None, Result, Ok, Err, FitsSigned}
 use Rattle.std.specs.Int.{w32}
+use Rattle.qe_base.specs.Lines.{placed_lines}
 use Rattle.qe_script.specs.declared.script.Command.{Command}
 use Rattle.qe_script.specs.declared.script.Command.TheVariants.{Insert, Find, Ids}
 use Rattle.qe_script.specs.declared.script.Header.{Header}
@@ -10,7 +11,7 @@ use Rattle.qe_script.specs.declared.script.ScriptFault.TheVariants.{At, NoMemory
 use Rattle.qe_script.specs.declared.script.ScriptKind.TheVariants.{NotBuilt}
 use Rattle.qe_script.specs.Forms.{◌>>=◌, json_of, command_of}
 use Rattle.qe_script.specs.Header.{header_of}
-use Rattle.qe_script.specs.Lines.{lines_of, numbered}
+use Rattle.qe_script.specs.Lines.{numbered}
 
 -- the value, or a fault at this line
 abbrev pub or_fault : {A : Type 0} → ℕ → Option A → Result A ScriptFault
@@ -45,7 +46,7 @@ script_from (line ∷ lines) =
     (or_fault line.0 (line_header line.1))
 
 unfoldable pub script_of : List ℕ → Result Script ScriptFault
-script_of bytes = script_from (numbered 1 (lines_of bytes))
+script_of bytes = script_from (numbered (placed_lines bytes))
 
 -- a command's numbers are int32s
 abbrev pub FitsInt32 : Command → Type 0
@@ -57,8 +58,7 @@ abbrev pub AllInt32 : List Command → Type 0
 AllInt32 [] = Unit {0}
 AllInt32 (command ∷ commands) = FitsInt32 command × AllInt32 commands
 
--- an answer is the one due; want of memory is free
-abbrev pub Gives : {A : Type 0} → Result A ScriptFault → Result A ScriptFault → Type 0
-Gives (Ok x) due = due ≡ Ok x
-Gives (Err (At line kind)) due = due ≡ Err (At line kind)
-Gives (Err NoMemory) due = Unit {0}
+-- a fault, where it is another than want of memory
+abbrev pub kept_fault : ScriptFault → Option ScriptFault
+kept_fault (At line kind) = Some (At line kind)
+kept_fault NoMemory = None

@@ -1,3 +1,5 @@
+//! What a line says: each function here mirrors the one of its name in `specs/Forms.antt`.
+
 ghost use Rattle.std.specs.Prelude.{◌≡◌, ◌||◌, ◌==◌, option_map, slice_index};
 ghost use Rattle.std.specs.Char.{is_ascii_alphabetic, is_ascii_alphanumeric};
 ghost use Rattle.std.specs.List.{list_all};
@@ -9,6 +11,9 @@ use crate::Command;
 use hex::FromHex;
 use serde_json::Value;
 use uuid::Uuid;
+
+/// How many bytes a path may have.
+const PATH_LIMIT: usize = 64;
 
 // The object has so many names.
 pub fn has_names(value: &Value, count: usize) -> bool
@@ -90,7 +95,7 @@ pub fn is_path(text: &str) -> bool
     ensures { result ≡ is_path text.now }
 {
     let bytes = text.as_bytes();
-    bytes.len() <= 64 && begins_with_letter(bytes) && is_word(bytes)
+    bytes.len() <= PATH_LIMIT && begins_with_letter(bytes) && is_word(bytes)
 }
 
 fn begins_with_letter(bytes: &[u8]) -> bool

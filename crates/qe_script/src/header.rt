@@ -1,3 +1,5 @@
+//! The first line of a script.
+
 ghost use Rattle.std.specs.Prelude.{◌≡◌, IfOk, option_map};
 ghost use Rattle.serde_json.specs.View.{view};
 ghost use Rattle.qe_script.specs.Forms.{field_of};

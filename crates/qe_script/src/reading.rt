@@ -1,30 +1,33 @@
+//! Scripts read line by line, to the first line that isn't one of a script.
+
 ghost use Rattle.std.specs.Prelude.{◌≡◌, IfOk, option_map};
 ghost use Rattle.serde_json.specs.View.{view};
+ghost use Rattle.qe_base.specs.Answers.{Answers};
 ghost use Rattle.qe_script.specs.Forms.{json_of};
-ghost use Rattle.qe_script.specs.Script.{Gives, or_fault, line_header, line_command, commands_of, script_of, AllInt32};
+ghost use Rattle.qe_script.specs.Lines.{numbered};
+ghost use Rattle.qe_script.specs.Script.{kept_fault, or_fault, line_header, line_command, commands_of, script_of, AllInt32};
 
 use crate::forms::command_form;
 use crate::header::header_form;
-use crate::lines::Lines;
+use crate::lines::next_line;
 use crate::{Command, Header, Script, ScriptFault, ScriptKind};
-use qe_base::{Listing, NoMemory};
+use qe_base::{Lines, Listing, NoMemory};
 use serde_json::Value;
 use std::alloc::Global;
 
 /// The script that the bytes are, or the first line that has no form that is built.
 pub fn read_script(alloc: Global, bytes: &[u8]) -> Result<Script, ScriptFault>
-    ensures exact { Gives result (script_of bytes.now) }
+    ensures exact { Answers (λ x. x) kept_fault result (script_of bytes.now) }
     ensures int32 { IfOk result (λ script. AllInt32 script.commands) }
 {
-    let script = script(alloc, bytes)?;
-    Ok(script)
+    script(alloc, bytes)
 }
 
 fn script(alloc: Global, bytes: &[u8]) -> Result<Script, ScriptFault>
-    ensures { Gives result (script_of bytes.now) }
+    ensures { Answers (λ x. x) kept_fault result (script_of bytes.now) }
 {
     let mut lines = Lines::of(bytes);
-    let Some((number, line)) = lines.next_line() else {
+    let Some((number, line)) = next_line(&mut lines) else {
         return Err(ScriptFault::At {
             line: 1,
             kind: ScriptKind::NotBuilt,
@@ -40,10 +43,10 @@ fn read_commands(
     path: &str,
     mut lines: Lines<'_>,
 ) -> Result<Listing<Command>, ScriptFault>
-    ensures { Gives result (commands_of path.now lines.entry) }
+    ensures { Answers (λ x. x) kept_fault result (commands_of path.now (numbered lines.entry)) }
 {
     let mut commands = Listing::new(alloc);
-    while let Some((number, line)) = lines.next_line() {
+    while let Some((number, line)) = next_line(&mut lines) {
         let command = or_fault(number, read_command(alloc, path, line)?)?;
         commands.push(command)?;
     }
@@ -68,8 +71,7 @@ fn read_header(alloc: Global, line: &[u8]) -> Result<Option<Header>, NoMemory>
     let Some(value) = read_json(alloc, line)? else {
         return Ok(None);
     };
-    let header = header_form(alloc, &value)?;
-    Ok(header)
+    header_form(alloc, &value)
 }
 
 fn read_command(alloc: Global, path: &str, line: &[u8]) -> Result<Option<Command>, NoMemory>

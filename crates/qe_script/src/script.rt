@@ -1,4 +1,7 @@
+//! What a script says.
+
 use qe_base::{Listing, NoMemory, Text};
+use thiserror::Error;
 
 /// An encrypted field of integers that is searched for equality.
 #[derive(Drop)]
@@ -38,18 +41,21 @@ pub struct Script {
 }
 
 /// Why a line isn't read.
-#[derive(Clone, Copy, Debug, PartialEq, Eq)]
+#[derive(Clone, Copy, Debug, PartialEq, Eq, Error)]
 pub enum ScriptKind {
     /// The line has no form that is built, or no line is left.
+    #[error("it has no form that is known, or is missing")]
     NotBuilt,
 }
 
 /// Why bytes are no script.
-#[derive(Debug, Drop)]
+#[derive(Debug, Drop, Error)]
 pub enum ScriptFault {
     /// The number of the first faulty line, from 1, and its fault.
+    #[error("line {line} isn't one of a script: {kind}")]
     At { line: u64, kind: ScriptKind },
     /// There was no memory.
+    #[error("there is not enough memory")]
     NoMemory,
 }
 

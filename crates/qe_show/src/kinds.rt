@@ -12,16 +12,14 @@ use std::alloc::Global;
 fn name(alloc: Global, name: &str) -> Result<Bytes, NoMemory>
     ensures { IfOk result (λ text. text ≡ name.now) }
 {
-    let text = Bytes::from_slice(alloc, name.as_bytes())?;
-    Ok(text)
+    Bytes::from_slice(alloc, name.as_bytes())
 }
 
 fn with_number(alloc: Global, name: &str, number: u64) -> Result<Bytes, NoMemory>
     ensures { IfOk result (λ text. text ≡ with_number name.now number) }
 {
     let text = format!(in alloc; "{name} {number}")?;
-    let text = Bytes::from_slice(alloc, text.as_bytes())?;
-    Ok(text)
+    Bytes::from_slice(alloc, text.as_bytes())
 }
 
 #[tactic(auto, unfolding(crate::specs::Kinds::bson_kind_text))]
@@ -50,8 +48,7 @@ fn bson_text(alloc: Global, fault: BsonFault) -> Result<Bytes, NoMemory>
         BsonFault::At { place, kind } => {
             let kind = bson_kind_name(kind);
             let text = format!(in alloc; "Bson {kind} {place}")?;
-            let text = Bytes::from_slice(alloc, text.as_bytes())?;
-            Ok(text)
+            Bytes::from_slice(alloc, text.as_bytes())
         }
         BsonFault::NoMemory => name(alloc, "Bson"),
     }
@@ -82,13 +79,11 @@ pub fn kind_text(alloc: Global, kind: Kind) -> Result<Bytes, NoMemory>
         Kind::KeyDiffers => name(alloc, "KeyDiffers"),
         Kind::ContentionAbove { got, limit } => {
             let text = format!(in alloc; "ContentionAbove {got} {limit}")?;
-            let text = Bytes::from_slice(alloc, text.as_bytes())?;
-            Ok(text)
+            Bytes::from_slice(alloc, text.as_bytes())
         }
         Kind::BadLimit(limit) => {
             let text = format!(in alloc; "BadLimit {limit}")?;
-            let text = Bytes::from_slice(alloc, text.as_bytes())?;
-            Ok(text)
+            Bytes::from_slice(alloc, text.as_bytes())
         }
     }
 }

@@ -1,17 +1,23 @@
-ghost use Rattle.std.specs.Prelude.{◌≡◌, IfOk, IfErr, map};
-ghost use Rattle.qe_show.specs.Lines.{Shows, IsWhyNot, blob_of, lines_of};
+//! The lines that show blobs.
+
+ghost use Rattle.std.specs.Prelude.{◌≡◌, IfOk, IfErr};
+ghost use Rattle.qe_base.specs.Lines.{placed_lines};
+ghost use Rattle.qe_show.specs.Lines.{Shows, IsWhyNot, blob_of};
 
 use crate::blob::blob_line;
 use hex::FromHexError;
-use qe_base::{Bytes, NoMemory};
-use std::alloc::{AllocError, Global};
+use qe_base::{Bytes, Lines, NoMemory};
+use std::alloc::Global;
+use thiserror::Error;
 
 /// Why bytes aren't shown.
-#[derive(Clone, Copy, Debug, PartialEq, Eq)]
+#[derive(Clone, Copy, Debug, PartialEq, Eq, Error)]
 pub enum ShowFault {
     /// The line of this number, from 1, isn't hex digits of whole bytes: the first such line.
+    #[error("line {line} isn't hex digits, two for each byte")]
     NotHex { line: u64 },
     /// There was no memory.
+    #[error("there is not enough memory")]
     NoMemory,
 }
 
@@ -26,49 +32,25 @@ impl From<NoMemory> for ShowFault {
     }
 }
 
-impl From<AllocError> for ShowFault {
-    ghost use Rattle.std.specs.Prelude.{◌≡◌};
-    ghost use Rattle.qe_show.specs.declared.lines.ShowFault.TheVariants.{NoMemory};
-
-    ghost from_gives = { λ _ fault. fault ≡ NoMemory };
-
-    fn from(_: AllocError) -> Self {
-        ShowFault::NoMemory
-    }
-}
-
 /// The lines that show the blobs of lines of hex digits. An empty line is passed over.
 pub fn show(alloc: Global, bytes: &[u8]) -> Result<Bytes, ShowFault>
-    ensures shown { IfOk result (Shows (lines_of bytes.now)) }
-    ensures fault { IfErr result (IsWhyNot (lines_of bytes.now)) }
-{
-    let lines = lines_of(alloc, bytes)?;
-    show_lines(alloc, lines.as_slice())
-}
-
-fn show_lines(alloc: Global, lines: &[&[u8]]) -> Result<Bytes, ShowFault>
-    ensures shown { IfOk result (Shows (map (λ line. line.now) lines.now)) }
-    ensures fault { IfErr result (IsWhyNot (map (λ line. line.now) lines.now)) }
+    ensures shown { IfOk result (Shows (placed_lines bytes.now)) }
+    ensures fault { IfErr result (IsWhyNot (placed_lines bytes.now)) }
 {
     let mut text = Bytes::new(alloc);
-    for i in 0..lines.len() {
-        if lines[i].is_empty() {
+    let mut lines = Lines::of(bytes);
+    while let Some((passed, line)) = lines.next_line() {
+        if line.is_empty() {
             continue;
         }
-        let Some(blob) = blob_of(alloc, lines[i])? else {
-            return Err(ShowFault::NotHex { line: i as u64 + 1 });
+        let Some(blob) = blob_of(alloc, line)? else {
+            return Err(ShowFault::NotHex { line: passed + 1 });
         };
-        let line = blob_line(alloc, blob.slice())?;
-        text.extend(line.slice())?;
+        let shown = blob_line(alloc, blob.slice())?;
+        text.extend(shown.slice())?;
         text.extend(b"\n")?;
     }
     Ok(text)
-}
-
-fn lines_of(alloc: Global, bytes: &[u8]) -> Result<Vec<&[u8]>, AllocError>
-    ensures { IfOk result (λ lines. map (λ line. line.now) lines.items ≡ lines_of bytes.now) }
-{
-    bytes.split(|byte| *byte == b'\n').collect(alloc)
 }
 
 // The bytes of a line of hex digits, if it is one.

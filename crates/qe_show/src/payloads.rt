@@ -18,8 +18,7 @@ impl Item for EdgeTokens {
         put_token(alloc, line, place, "d", &self.d)?;
         put_token(alloc, line, place, "s", &self.s)?;
         put_token(alloc, line, place, "l", &self.l)?;
-        let done = put_token(alloc, line, place, "p", &self.p)?;
-        Ok(done)
+        put_token(alloc, line, place, "p", &self.p)
     }
 }
 
@@ -32,8 +31,7 @@ impl Item for FindEdge {
     fn put(&self, alloc: Global, line: &mut Bytes, place: usize) -> Result<(), NoMemory> {
         put_token(alloc, line, place, "d", &self.d)?;
         put_token(alloc, line, place, "s", &self.s)?;
-        let done = put_token(alloc, line, place, "l", &self.l)?;
-        Ok(done)
+        put_token(alloc, line, place, "l", &self.l)
     }
 }
 

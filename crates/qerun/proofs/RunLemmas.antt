@@ -20,7 +20,7 @@ use Rattle.qerun.specs.declared.answer.Answer.TheVariants as answer
 use Rattle.qerun.specs.declared.document.Document.{Document}
 use Rattle.qerun.specs.declared.stored.Stored.{Stored}
 use Rattle.qerun.specs.declared.server.Server.{Server}
-use Rattle.qerun.specs.Client.{HasBytes, Sends, IsSent, tokens_of}
+use Rattle.qerun.specs.Client.{Sends, IsSent, tokens_of}
 use Rattle.qerun.specs.Opening.{on_ok, reply_to, value_in, documents_in}
 use Rattle.qerun.specs.Plain.{has_id, matching, documents_after, replies_from, plain_replay}
 use Rattle.qerun.specs.Server.{Serves, Adds, Finds, FindsIds, has_stored, tagged_among, tags_to}
@@ -29,7 +29,7 @@ use Rattle.qerun.specs.Words.{item_of, NoClash, values_of, values_from, times_fr
 use Rattle.qerun.proofs.ApartLemmas.{IsMet, total}
 use Rattle.qerun.proofs.StandsLemmas.{StandsFor, StandForAll, count_is, found_stand, ids_are_plain, opened_are_plain, has_stored_is}
 use Rattle.qerun.proofs.StepLemmas.{raised, stands_added}
-use Rattle.qerun.proofs.ValueLemmas.{value_in-stored, AllOpen, all_open-push, all_open-filter, all_open-documents}
+use Rattle.qerun.proofs.ValueLemmas.{CanOpen, value_in-stored, AllOpen, all_open-push, all_open-filter, all_open-documents}
 
 -- What holds between two commands. `rest` is what is left of the commands.
 pub record Reached (header : Header) (commands rest : List Command) (replies : List Reply) (server : Server) : Type 0 where
@@ -209,7 +209,7 @@ kept_found header old new found tokens all same finds =
     (rw (finds.tagged) (all_open-filter header _ old.documents all)) in
     record { reply = reply.Found opened.0; is_reply = ap (on_ok (λ documents. Ok (reply.Found documents))) opened.1; all = rw same all }
 
-kept_inserted : (header : Header) (number : ℕ) (ivs : ServerIvs) (old new : Server) (id v : ℤ) (payload : Payload) → HasBytes header → length ivs.value ≡ 16
+kept_inserted : (header : Header) (number : ℕ) (ivs : ServerIvs) (old new : Server) (id v : ℤ) (payload : Payload) → CanOpen header → length ivs.value ≡ 16
     → FitsSigned w32 v → AllOpen header old.documents → IsSent header number (item_of v) payload → Adds ivs old new id payload
     → Kept header answer.Inserted new
 kept_inserted header number ivs old new id v payload has long fits all sent adds = record {
@@ -219,7 +219,7 @@ kept_inserted header number ivs old new id v payload has long fits all sent adds
 }
 
 kept_next : (header : Header) (number : ℕ) (ivs : ServerIvs) (command : Command) (request : Request) (old new : Server) (answer : Answer)
-    → HasBytes header → length ivs.value ≡ 16 → FitsInt32 command → AllOpen header old.documents → Sends header number command request
+    → CanOpen header → length ivs.value ≡ 16 → FitsInt32 command → AllOpen header old.documents → Sends header number command request
     → Serves request ivs old new answer → Kept header answer new
 kept_next header number ivs (Insert id v) (request.Insert sent payload) old new answer.Inserted has long fits all sends serves =
     kept_inserted header number ivs old new sent v payload has long fits.1 all sends.1 serves
@@ -246,7 +246,7 @@ kept_next header number ivs (Ids v) (request.Ids tokens) old new (answer.Ids ids
 
 -- one command
 reached_next : (header : Header) (number : ℕ) (ivs : ServerIvs) (commands rest : List Command) (command : Command) (request : Request) (replies : List Reply)
-    (old new : Server) (answer : Answer) (one : Reply) → HasBytes header → length ivs.value ≡ 16 → FitsInt32 command → NoClash header.field.key commands
+    (old new : Server) (answer : Answer) (one : Reply) → CanOpen header → length ivs.value ≡ 16 → FitsInt32 command → NoClash header.field.key commands
     → length commands < 2 ^ 64 → Reached header commands (command ∷ rest) replies old → Sends header number command request
     → Serves request ivs old new answer → Ok one ≡ reply_to header answer → Reached header commands rest (replies ++ one ∷ []) new
 reached_next header number ivs commands rest (Insert id v) (request.Insert sent payload) replies old new answer.Inserted one has long fits clear short reached sends serves is_reply =
@@ -284,14 +284,14 @@ fits_at (command ∷ commands) (suc place) other all within = fits_at commands p
 
 -- the server behind the command at a place
 pub kept_at : (header : Header) (number : ℕ) (ivs : ServerIvs) (commands : List Command) (place : ℕ) (other : Command) (request : Request) (old new : Server)
-    (answer : Answer) → HasBytes header → length ivs.value ≡ 16 → AllInt32 commands → place < length commands → AllOpen header old.documents
+    (answer : Answer) → CanOpen header → length ivs.value ≡ 16 → AllInt32 commands → place < length commands → AllOpen header old.documents
     → Sends header number (get_or commands place other) request → Serves request ivs old new answer → Kept header answer new
 kept_at header number ivs commands place other request old new answer has long all within opening sends serves =
     kept_next header number ivs (get_or commands place other) request old new answer has long (fits_at commands place other all within) opening sends serves
 
 -- the run behind the command at a place
 pub reached_at : (header : Header) (number : ℕ) (ivs : ServerIvs) (commands : List Command) (place : ℕ) (other : Command) (request : Request)
-    (replies : List Reply) (old new : Server) (answer : Answer) (one : Reply) → HasBytes header → length ivs.value ≡ 16 → AllInt32 commands
+    (replies : List Reply) (old new : Server) (answer : Answer) (one : Reply) → CanOpen header → length ivs.value ≡ 16 → AllInt32 commands
     → NoClash header.field.key commands → length commands < 2 ^ 64 → place < length commands
     → Reached header commands (drop place commands) replies old → Sends header number (get_or commands place other) request
     → Serves request ivs old new answer → Ok one ≡ reply_to header answer

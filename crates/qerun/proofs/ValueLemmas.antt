@@ -8,13 +8,12 @@ use Rattle.std.proofs.lemmas.List.{take_at, drop_at}
 use Rattle.std.proofs.lemmas.Nat.{from_le_bytes-to_le_bytes_4}
 use Rattle.std.proofs.lemmas.Slice.Eq.{bytes_eq-Decides}
 use Rattle.qe_base.specs.Bytes.{AreBytes}
-use Rattle.qe_seal.specs.Enciphered.{enciphered}
+use Rattle.qe_seal.specs.Enciphered.{enciphered, CipherLaws}
 use Rattle.qe_indexed.specs.Spelling.{IsLaidOut}
-use Rattle.qe_seal.proofs.EncipheredLemmas.{deciphered-enciphered}
 use Rattle.qe_indexed.proofs.ReadingLemmas.{parts_are}
 use Rattle.qe_script.specs.declared.script.Header.{Header}
 use Rattle.qe_seal.specs.Sealed.{opened_value}
-use Rattle.qe_seal.proofs.SealLawLemmas.{opened_value-Seals}
+use Rattle.qe_seal.specs.SealLaws.{SealLaws}
 use Rattle.qerun.specs.Client.{HasBytes, IsSent}
 use Rattle.qerun.specs.Draws.{draws_key}
 use Rattle.qerun.specs.Opening.{int32_of, unsealed, sealed_in, value_in, documents_in}
@@ -26,6 +25,12 @@ use Rattle.qerun.specs.declared.stored.ServerIvs.{ServerIvs}
 use Rattle.qerun.specs.declared.stored.Stored.{Stored}
 use Rattle.qerun.proofs.DrawLemmas.{IsBlock-iv_at, AreBytes-word}
 use Rattle.qerun.proofs.OpeningLemmas.{sealed_in-sent, value_sent-own, value_in-own}
+
+-- what opening the values of a header stands on: its bytes, and that unsealing and deciphering undo sealing and enciphering
+pub record CanOpen (header : Header) : Type 0 where
+  pub bytes : HasBytes header
+  pub seals : SealLaws
+  pub ciphers : CipherLaws
 
 -- an int32's four bytes are that int32's
 int32_of-item_of : (v : ℤ) → FitsSigned w32 v → int32_of (item_of v) ≡ Ok v
@@ -39,22 +44,22 @@ unfolding item_of
 AreBytes-item_of v = AreBytes-word (cast_unsigned w32 v)
 
 -- what is enciphered of an int32 opens to it
-sealed_in-enciphered : (header : Header) (number : ℕ) (iv : List ℕ) (v : ℤ) (payload : Payload) → HasBytes header → length iv ≡ 16 → FitsSigned w32 v
+sealed_in-enciphered : (header : Header) (number : ℕ) (iv : List ℕ) (v : ℤ) (payload : Payload) → CanOpen header → length iv ≡ 16 → FitsSigned w32 v
     → IsSent header number (item_of v) payload → sealed_in header (enciphered payload.cipher.0 iv payload.value) ≡ Ok v
 sealed_in-enciphered header number iv v payload has long fits sent =
     sealed_in-sent header header.field.key header.field.key_id payload.cipher.0 _ payload.value refl refl sent.cipher
-    (sym (deciphered-enciphered payload.cipher.0 iv payload.value long))
+    (sym (has.ciphers.bytes payload.cipher.0 iv payload.value long))
     ∙ value_sent-own header.field.key header.field.key_id payload.value
     ((bytes_eq-Decides (take 16 payload.value) header.field.key_id).1
-    (ap (take 16) sent.value ∙ take_at header.field.key_id sent.sealed 16 has.id.long))
+    (ap (take 16) sent.value ∙ take_at header.field.key_id sent.sealed 16 has.bytes.id.long))
     ∙ ap (λ s. unsealed (opened_value header.field.key header.field.key_id s))
-    (ap (drop 16) sent.value ∙ drop_at header.field.key_id sent.sealed 16 has.id.long)
-    ∙ ap unsealed (opened_value-Seals header.field.key header.field.key_id _ (item_of v) sent.sealed has.key
+    (ap (drop 16) sent.value ∙ drop_at header.field.key_id sent.sealed 16 has.bytes.id.long)
+    ∙ ap unsealed (has.seals.back header.field.key header.field.key_id _ (item_of v) sent.sealed has.bytes.key
     (IsBlock-iv_at (draws_key header.seed) number 2) (AreBytes-item_of v) sent.seals)
     ∙ int32_of-item_of v fits
 
 -- so does what is stored of it
-pub value_in-stored : (header : Header) (number count : ℕ) (ivs : ServerIvs) (v : ℤ) (payload : Payload) (stored : List ℕ) → HasBytes header
+pub value_in-stored : (header : Header) (number count : ℕ) (ivs : ServerIvs) (v : ℤ) (payload : Payload) (stored : List ℕ) → CanOpen header
     → length ivs.value ≡ 16 → FitsSigned w32 v → IsSent header number (item_of v) payload → IsLaidOut (indexed_of payload count ivs) stored
     → value_in header stored ≡ Ok v
 unfolding indexed_of

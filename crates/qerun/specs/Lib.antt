@@ -1,6 +1,6 @@
 pub mod Client
 pub mod Draws
-pub mod Due
+pub mod Ending
 pub mod Opening
 pub mod Plain
 pub mod Server

@@ -1,5 +1,5 @@
 -- What a client reads of an answer: each stored value opened under its key, or the first fault.
-use Rattle.std.specs.Prelude.{◌≡◌, ℕ, ℤ, List, [], ◌∷◌, ◌==◌, length, take, drop, Result, Ok, Err, if◌then◌else◌}
+use Rattle.std.specs.Prelude.{ℕ, ℤ, List, [], ◌∷◌, ◌==◌, length, take, drop, Option, None, Some, Result, Ok, Err, if◌then◌else◌}
 use Rattle.std.specs.Int.{w32, from_le_bytes, cast_signed}
 use Rattle.std.specs.Str.{bytes_eq}
 use Rattle.qe_indexed.specs.Reading.{indexed_at}
@@ -78,7 +78,7 @@ reply_to header answer.Duplicate = Ok Duplicate
 reply_to header (answer.Found stored) = on_ok (λ documents. Ok (Found documents)) (documents_in header stored)
 reply_to header (answer.Ids ids) = Ok (Ids ids)
 
--- the answer is the one that is due, or memory was short
-abbrev pub Opens : {A : Type 0} → Result A OpenFault → Result A OpenFault → Type 0
-Opens (Err NoMemory) due = Unit {0}
-Opens answer due = answer ≡ due
+-- a fault, where it is another than want of memory
+abbrev pub kept_fault : OpenFault → Option OpenFault
+kept_fault NoMemory = None
+kept_fault fault = Some fault

@@ -1,8 +1,9 @@
 -- What a call of `replay` comes to, task by task and status by status.
-use Rattle.std.specs.Prelude.{◌≡◌, ◌⊎◌, ◌^◌, ℕ, List, length, nat_lt, codes, if◌then◌else◌, Option, Some, None, Result, Ok, Err}
+use Rattle.std.specs.Prelude.{◌≡◌, ◌⊎◌, ℕ, List, length, nat_lt, codes, if◌then◌else◌, Option, Some, None, Result, Ok, Err}
 use Rattle.std.specs.Io.KnownBytes.{Appends, Keeps}
 use Rattle.qe_base.specs.Faults.{Rose}
-use Rattle.qe_base.specs.Transfer.{TakesAll, IsTooLong, AppendsFront}
+use Rattle.qe_base.specs.Lines.{placed_lines}
+use Rattle.qe_base.specs.Transfer.{script_limit, TakesAll, TakesSome, IsCutOff, IsTooLong, AppendsFront}
 use Rattle.qe_base.specs.declared.status.Status.{Status}
 use Rattle.qe_base.specs.declared.status.Status.TheVariants.{Done, ReadFault, WriteFault, Clash, BadScript, ScriptTooLong, NoMemory, BadWords}
 use Rattle.qe_script.specs.Script.{script_of}
@@ -10,7 +11,7 @@ use Rattle.qe_script.specs.declared.script.Script.{Script}
 use Rattle.qe_script.specs.declared.script.ScriptFault.{ScriptFault}
 use Rattle.qe_script.specs.declared.script.ScriptFault.TheVariants.{At}
 use Rattle.qe_script.specs.declared.script.ScriptKind.TheVariants.{NotBuilt}
-use Rattle.qe_show.specs.Lines.{Shows, lines_of, first_not_hex}
+use Rattle.qe_show.specs.Lines.{Shows, first_not_hex}
 use Rattle.qerun.specs.Task.{task_of}
 use Rattle.qerun.specs.declared.task.Task.{Task}
 use Rattle.qerun.specs.declared.task.Task.TheVariants.{Replay, Show}
@@ -32,14 +33,14 @@ pub record IsRefusal (taken text : List ℕ) : Type 0 where
 -- the text names the first line that isn't hex
 pub record IsNotHex (taken text : List ℕ) : Type 0 where
   pub line : ℕ
-  pub first : first_not_hex 1 (lines_of taken) ≡ Some line
+  pub first : first_not_hex (placed_lines taken) ≡ Some line
   pub printed : text ≡ bad_line_text line (codes "NotHex")
 
 -- the text that a task's input is answered with, by the status
 abbrev pub IsDueFor : Task → List ℕ → Status → List ℕ → Type 0
 IsDueFor Replay taken Done text = IsRun taken text
 IsDueFor Replay taken BadScript text = IsRefusal taken text
-IsDueFor Show taken Done text = Shows (lines_of taken) text
+IsDueFor Show taken Done text = Shows (placed_lines taken) text
 IsDueFor Show taken BadScript text = IsNotHex taken text
 IsDueFor task taken _ text = ⊥
 
@@ -92,11 +93,16 @@ pub record IsWritten (call : Call) (status : Status) : Type 0 where
   pub due : IsDue call.words call.left call.left_after status text
   pub written : Appends call.holds call.holds_after text
 
--- the source failed, and nothing was written
+-- the source failed behind bytes that it gave, and nothing was written
 pub record IsUnread (call : Call) : Type 0 where
   pub task : Task
   pub form : task_of call.words ≡ Some task
-  pub rose : Rose call.reads call.reads_after
+  pub cut_off : IsCutOff call.reads call.reads_after call.left call.left_after
+  pub kept : Keeps call.holds call.holds_after
+
+-- memory was short; the source stands behind bytes that it gave, and nothing was written
+pub record IsShortOfMemory (call : Call) : Type 0 where
+  pub given : TakesSome call.left call.left_after
   pub kept : Keeps call.holds call.holds_after
 
 -- the sink failed, and holds a prefix of the text that was due
@@ -107,7 +113,7 @@ pub record IsCutShort (call : Call) : Type 0 where
   pub front : AppendsFront call.holds call.holds_after text
   pub rose : Rose call.writes call.writes_after
 
--- want of memory is free, and nothing was written
+-- want of memory is free
 abbrev pub IsOutcome : Call → Status → Type 0
 IsOutcome call Done = IsWritten call Done
 IsOutcome call ReadFault = IsUnread call
@@ -115,7 +121,7 @@ IsOutcome call WriteFault = IsCutShort call
 IsOutcome call Clash = ⊥
 IsOutcome call BadScript = IsWritten call BadScript
 IsOutcome call ScriptTooLong = IsWritten call ScriptTooLong
-IsOutcome call NoMemory = Keeps call.holds call.holds_after
+IsOutcome call NoMemory = IsShortOfMemory call
 IsOutcome call BadWords = IsWritten call BadWords
 
 abbrev pub script_status : Result Script ScriptFault → Status
@@ -128,15 +134,19 @@ hex_status (Some line) = BadScript
 
 abbrev pub input_status : Task → List ℕ → Status
 input_status Replay input = script_status (script_of input)
-input_status Show input = hex_status (first_not_hex 1 (lines_of input))
+input_status Show input = hex_status (first_not_hex (placed_lines input))
 
 abbrev pub task_status : Option Task → List ℕ → Status
 task_status None input = BadWords
-task_status (Some task) input = if nat_lt (2 ^ 28) (length input) then ScriptTooLong else input_status task input
+task_status (Some task) input = if nat_lt script_limit (length input) then ScriptTooLong else input_status task input
 
 -- the status of words and an input
 abbrev pub due_status : List (List ℕ) → List ℕ → Status
 due_status words input = task_status (task_of words) input
+
+-- words that name no task leave the source as it was
+abbrev pub LeavesUnread : {S : Type 0} → List (List ℕ) → S → S → Type 0
+LeavesUnread words old new = task_of words ≡ None → new ≡ old
 
 -- where neither side fails, the status is the one due, or memory was wanting
 abbrev pub Completes : Call → Status → Type 0

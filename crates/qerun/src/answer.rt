@@ -1,3 +1,5 @@
+//! What the server answers.
+
 use crate::stored::Stored;
 use qe_base::Listing;
 

@@ -1,15 +1,18 @@
+//! The client: it holds the keys, seals what is stored and opens what comes back.
+
 ghost use Rattle.std.specs.Prelude.{◌≡◌, IfOk};
+ghost use Rattle.qe_base.specs.Answers.{Answers};
 ghost use Rattle.qe_script.specs.declared.script.Header.{Header};
 ghost use Rattle.qerun.specs.Draws.{draws_key, server_ivs_at};
 ghost use Rattle.qerun.specs.Words.{item_of};
 ghost use Rattle.qerun.specs.Client.{IsClientOf, HasBytes, IsSent, Sends, tokens_of};
-ghost use Rattle.qerun.specs.Opening.{Opens, int32_of, sealed_in, value_in, documents_in, reply_to};
+ghost use Rattle.qerun.specs.Opening.{kept_fault, int32_of, sealed_in, value_in, documents_in, reply_to};
 
 use crate::answer::Answer;
 use crate::document::Document;
 use crate::draws::{Draws, SEALED_IV};
 use crate::opening::{OpenFault, int32};
-use crate::pieces::{are_bytes, is_block};
+use crate::bytes::{are_bytes, is_block};
 use crate::reply::Reply;
 use crate::request::{Payload, Request, WordTokens};
 use crate::stored::{ServerIvs, Stored, deciphered};
@@ -84,7 +87,7 @@ impl Client {
 
     /// The reply that an answer holds, each value opened.
     pub fn reply(&self, alloc: Global, answer: Answer) -> Result<Reply, OpenFault>
-        ensures { (header : Header) → IsClientOf header self.now → Opens result (reply_to header answer) }
+        ensures { (header : Header) → IsClientOf header self.now → Answers (λ x. x) kept_fault result (reply_to header answer) }
     {
         match answer {
             Answer::Inserted => Ok(Reply::Inserted),
@@ -126,7 +129,7 @@ impl Client {
 
     // The documents that are stored.
     fn documents(&self, alloc: Global, stored: &[Stored]) -> Result<Listing<Document>, OpenFault>
-        ensures { (header : Header) → IsClientOf header self.now → Opens result (documents_in header stored.now) }
+        ensures { (header : Header) → IsClientOf header self.now → Answers (λ x. x) kept_fault result (documents_in header stored.now) }
     {
         let mut documents = Listing::new(alloc);
         for one in stored {
@@ -138,7 +141,7 @@ impl Client {
 
     // The value that is stored.
     fn open(&self, alloc: Global, stored: &[u8]) -> Result<i32, OpenFault>
-        ensures { (header : Header) → IsClientOf header self.now → Opens result (value_in header stored.now) }
+        ensures { (header : Header) → IsClientOf header self.now → Answers (λ x. x) kept_fault result (value_in header stored.now) }
     {
         let value = IndexedValue::read(alloc, stored)?;
         if value.key_id != self.key_id {
@@ -149,7 +152,7 @@ impl Client {
 
     // The value that was sealed.
     fn unsealed(&self, alloc: Global, server_value: &[u8]) -> Result<i32, OpenFault>
-        ensures { (header : Header) → IsClientOf header self.now → Opens result (sealed_in header server_value.now) }
+        ensures { (header : Header) → IsClientOf header self.now → Answers (λ x. x) kept_fault result (sealed_in header server_value.now) }
     {
         let sent = deciphered(alloc, &self.cipher, server_value)?;
         let Some(sealed) = sent.as_slice().strip_prefix(self.key_id.as_slice()) else {

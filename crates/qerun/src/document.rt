@@ -1,3 +1,5 @@
+//! Documents of the plain collection.
+
 /// A document of the plain collection.
 #[derive(Clone, Copy)]
 pub struct Document {

@@ -1,3 +1,5 @@
+//! The random words of the client.
+
 ghost use Rattle.std.specs.Prelude.{◌≡◌, ◌+◌, ◌^◌, ◌<◌};
 ghost use Rattle.std.specs.Int.{w32, to_le_bytes};
 ghost use Rattle.rand_chacha.specs.ChaCha.{word_at, key_of};

@@ -10,7 +10,7 @@ mod client;
 mod document;
 mod draws;
 mod opening;
-mod pieces;
+mod bytes;
 mod reply;
 mod request;
 mod run;
@@ -22,17 +22,29 @@ mod tests;
 mod texts;
 mod top;
 
-use qe_base::{StdSink, StdSource};
+use qe_base::{NoMemory, Status, StdSink, StdSource};
+use std::env;
+use std::io::ErrorKind;
 use std::process::ExitCode;
-use std::{env, io};
 
-fn main(rt: HostRuntime) -> io::Result<ExitCode> {
-    let words: Vec<String> = env::args(&rt)?.skip(1).collect(rt.alloc())?;
-    let status = top::replay(
-        rt.alloc(),
-        words.as_slice(),
-        &mut StdSource::new(&rt),
-        &mut StdSink::new(&rt),
-    );
-    Ok(ExitCode::from(status.code()))
+fn main(rt: HostRuntime) -> ExitCode {
+    let status = match words(&rt) {
+        Ok(words) => top::replay(
+            rt.alloc(),
+            words.as_slice(),
+            &mut StdSource::new(&rt),
+            &mut StdSink::new(&rt),
+        ),
+        Err(NoMemory) => Status::NoMemory,
+    };
+    ExitCode::from(status.code())
+}
+
+// The words behind the program's name. Where one isn't text there are none, since both are of no known form.
+fn words(rt: &HostRuntime) -> Result<Vec<String>, NoMemory> {
+    match env::args(rt) {
+        Ok(words) => Ok(words.skip(1).collect(rt.alloc())?),
+        Err(error) if error.kind() == ErrorKind::OutOfMemory => Err(NoMemory),
+        Err(_) => Ok(Vec::new(rt.alloc())),
+    }
 }

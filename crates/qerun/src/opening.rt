@@ -1,3 +1,5 @@
+//! Why a stored value isn't opened.
+
 ghost use Rattle.std.specs.Prelude.{◌≡◌};
 ghost use Rattle.qerun.specs.Opening.{int32_of};
 

@@ -1,3 +1,5 @@
+//! What a command is answered.
+
 use crate::document::Document;
 use qe_base::Listing;
 

@@ -1,3 +1,5 @@
+//! What the client sends.
+
 use qe_base::Bytes;
 use qe_tokens::{EdcContention, EscContention, ServerDataLevel1, ServerDerived};
 

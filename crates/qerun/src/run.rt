@@ -1,3 +1,5 @@
+//! A run: each command goes to the server, and its answer is opened.
+
 ghost use Rattle.std.specs.Prelude.{◌≡◌, IfOk};
 ghost use Rattle.qe_script.specs.Script.{AllInt32};
 ghost use Rattle.qerun.specs.Plain.{plain_replay};
@@ -9,6 +11,7 @@ use crate::reply::Reply;
 use crate::server::Server;
 use qe_base::{Listing, NoMemory};
 use qe_script::{Command, Header};
+use qe_seal::{cipher_laws, seal_laws};
 use std::alloc::Global;
 
 /// Runs the commands of one client on a new server, and answers their replies: those of the plain collection, where
@@ -17,6 +20,9 @@ pub fn run(alloc: Global, header: &Header, commands: &[Command]) -> Result<Listi
     requires { AllInt32 commands.now }
     ensures { IfOk result (λ replies. NoClash header.now.field.key commands.now → replies ≡ plain_replay commands.now) }
 {
+    // What is sealed and enciphered, the client opens.
+    seal_laws();
+    cipher_laws();
     let client = Client::new(header);
     let mut server = Server::new(alloc);
     let mut replies = Listing::new(alloc);

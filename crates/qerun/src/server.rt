@@ -1,3 +1,5 @@
+//! The server: it keeps rows and documents, and sees tokens alone.
+
 ghost use Rattle.std.specs.Prelude.{◌≡◌, ◌-◌, ◌^◌, ◌<◌, ◌↔◌, [], false, Contains, IsTrue, IfOk, OnOk, length, map};
 ghost use Rattle.std.specs.List.{list_any};
 ghost use Rattle.std.specs.Str.{bytes_eq};
@@ -84,8 +86,7 @@ impl Server {
     {
         let number = count_positions(self.rows.slice(), tokens);
         let tags = tags_to(alloc, tokens, number)?;
-        let found = tagged_among(alloc, tags.slice(), self.documents.slice())?;
-        Ok(found)
+        tagged_among(alloc, tags.slice(), self.documents.slice())
     }
 
     // The ids of these documents.
@@ -93,8 +94,7 @@ impl Server {
         ensures { IfOk result (FindsIds self.now tokens.now) }
     {
         let found = self.find(alloc, tokens)?;
-        let ids = ids_of(alloc, found.slice())?;
-        Ok(ids)
+        ids_of(alloc, found.slice())
     }
 }
 

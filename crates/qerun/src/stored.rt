@@ -1,3 +1,5 @@
+//! What the server keeps in the place of a value.
+
 ghost use Rattle.std.specs.Prelude.{◌≡◌, length, IfOk};
 ghost use Rattle.qe_indexed.specs.Spelling.{IsLaidOut};
 ghost use Rattle.qe_seal.specs.Enciphered.{enciphered, deciphered};
@@ -55,8 +57,7 @@ pub fn indexed_value(
     ensures { IfOk result (IsLaidOut (indexed_of payload.now count ivs.now)) }
 {
     let value = equality_value(alloc, payload, count, ivs)?;
-    let bytes = value.write(alloc)?;
-    Ok(bytes)
+    value.write(alloc)
 }
 
 fn equality_value(

@@ -1,3 +1,5 @@
+//! What the words ask for.
+
 ghost use Rattle.std.specs.Prelude.{◌≡◌, map, string_bytes};
 ghost use Rattle.qerun.specs.Task.{task_named, task_of};
 

@@ -1,3 +1,5 @@
+//! The lines that the program writes.
+
 ghost use Rattle.std.specs.Prelude.{◌≡◌, ◌++◌, string_bytes, IfOk, OnOk};
 ghost use Rattle.serde_json.specs.View.{view};
 ghost use Rattle.serde_json.specs.Written.{compact_text};
@@ -113,14 +115,12 @@ pub fn bad_line_text(alloc: Global, number: u64, kind: &str) -> Result<Bytes, No
 pub fn too_long_text(alloc: Global) -> Result<Bytes, NoMemory>
     ensures { IfOk result (λ text. text ≡ too_long_text) }
 {
-    let bytes = Bytes::from_slice(alloc, b"bad script too long\n")?;
-    Ok(bytes)
+    Bytes::from_slice(alloc, b"bad script too long\n")
 }
 
 /// The line of words that have no form.
 pub fn usage_text(alloc: Global) -> Result<Bytes, NoMemory>
     ensures { IfOk result (λ text. text ≡ usage_text) }
 {
-    let bytes = Bytes::from_slice(alloc, b"usage: qerun replay, show, make N SEED, crowd\n")?;
-    Ok(bytes)
+    Bytes::from_slice(alloc, b"usage: qerun replay, show, make N SEED, crowd\n")
 }

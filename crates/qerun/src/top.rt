@@ -1,6 +1,8 @@
+//! A call of the program: the words are judged, the input is taken, and the text that is due is written.
+
 ghost use Rattle.std.specs.Prelude.{◌≡◌, ◌≤◌, map, string_bytes, IfOk, IfErr};
-ghost use Rattle.qerun.specs.Top.{Call, IsOutcome, Completes};
-ghost use Rattle.qerun.specs.Due.{IsPrepared, IsPreparedFor, IsWhyStopped};
+ghost use Rattle.qerun.specs.Ending.{IsEnding, IsEndingFor, IsWhyStopped};
+ghost use Rattle.qerun.specs.Top.{Call, IsOutcome, LeavesUnread, Completes};
 
 use crate::run::run;
 use crate::task::{Task, task_of};
@@ -12,7 +14,7 @@ use std::alloc::Global;
 
 /// What is to be written, and the status that it comes with.
 #[derive(Drop)]
-pub struct Due {
+pub struct Ending {
     pub status: Status,
     pub text: Bytes,
 }
@@ -69,6 +71,9 @@ pub fn replay<S: Source, K: Sink>(
       writes_after = K.faults sink.new;
     }) result }
 
+    // Words that name no task are refused before anything is read.
+    ensures unread { LeavesUnread (map string_bytes words.now) source.old source.new }
+
     ensures reads { S.faults source.old ≤ S.faults source.new }
     ensures writes { K.faults sink.old ≤ K.faults sink.new }
 {
@@ -93,12 +98,13 @@ fn outcome<S: Source, K: Sink>(
       writes = K.faults sink.old;
       writes_after = K.faults sink.new;
     }) result }
+    ensures unread { LeavesUnread (map string_bytes words.now) source.old source.new }
     ensures reads { S.faults source.old ≤ S.faults source.new }
     ensures writes { K.faults sink.old ≤ K.faults sink.new }
 {
     match prepared(alloc, words, source) {
-        Ok(due) => match put_all(sink, due.text.slice()) {
-            Ok(()) => due.status,
+        Ok(ending) => match put_all(sink, ending.text.slice()) {
+            Ok(()) => ending.status,
             Err(_) => Status::WriteFault,
         },
         Err(Stop::ReadFault) => Status::ReadFault,
@@ -107,26 +113,27 @@ fn outcome<S: Source, K: Sink>(
 }
 
 // What is due for the words and what the source gives. Nothing is written yet.
-fn prepared<S: Source>(alloc: Global, words: &[String], source: &mut S) -> Result<Due, Stop>
-    ensures due { IfOk result (IsPrepared (map string_bytes words.now) (S.left source.old) (S.left source.new)) }
-    ensures stop { IfErr result (IsWhyStopped (map string_bytes words.now) (S.faults source.old) (S.faults source.new)) }
+fn prepared<S: Source>(alloc: Global, words: &[String], source: &mut S) -> Result<Ending, Stop>
+    ensures due { IfOk result (IsEnding (map string_bytes words.now) (S.left source.old) (S.left source.new)) }
+    ensures stop { IfErr result (IsWhyStopped (map string_bytes words.now) (S.faults source.old) (S.faults source.new) (S.left source.old) (S.left source.new)) }
     ensures reads { S.faults source.old ≤ S.faults source.new }
+    ensures unread { LeavesUnread (map string_bytes words.now) source.old source.new }
 {
     let Some(task) = task_of(words) else {
         let text = usage_text(alloc)?;
-        return Ok(Due {
+        return Ok(Ending {
             status: Status::BadWords,
             text,
         });
     };
     match take_all(alloc, source) {
         Ok(taken) => {
-            let due = due_for(alloc, task, taken.slice())?;
-            Ok(due)
+            let ending = ending_for(alloc, task, taken.slice())?;
+            Ok(ending)
         }
         Err(TakeFault::TooLong { .. }) => {
             let text = too_long_text(alloc)?;
-            Ok(Due {
+            Ok(Ending {
                 status: Status::ScriptTooLong,
                 text,
             })
@@ -137,32 +144,32 @@ fn prepared<S: Source>(alloc: Global, words: &[String], source: &mut S) -> Resul
 }
 
 // What is due for the bytes of a task's input.
-fn due_for(alloc: Global, task: Task, taken: &[u8]) -> Result<Due, NoMemory>
-    ensures { IfOk result (IsPreparedFor task taken.now) }
+fn ending_for(alloc: Global, task: Task, taken: &[u8]) -> Result<Ending, NoMemory>
+    ensures { IfOk result (IsEndingFor task taken.now) }
 {
     match task {
-        Task::Replay => replies_due(alloc, taken),
-        Task::Show => lines_due(alloc, taken),
+        Task::Replay => replies_ending(alloc, taken),
+        Task::Show => lines_ending(alloc, taken),
     }
 }
 
 // The replies to a script, or its first line that isn't read.
-fn replies_due(alloc: Global, taken: &[u8]) -> Result<Due, NoMemory>
-    ensures { IfOk result (IsPreparedFor Task.Replay taken.now) }
+fn replies_ending(alloc: Global, taken: &[u8]) -> Result<Ending, NoMemory>
+    ensures { IfOk result (IsEndingFor Task.Replay taken.now) }
 {
     match read_script(alloc, taken) {
         Ok(script) => {
             let replies = run(alloc, &script.header, script.commands.slice())?;
             let path = script.header.field.path.as_str();
             let text = replies_text(alloc, path, replies.slice())?;
-            Ok(Due {
+            Ok(Ending {
                 status: Status::Done,
                 text,
             })
         }
         Err(ScriptFault::At { line, .. }) => {
             let text = bad_line_text(alloc, line, "NotBuilt")?;
-            Ok(Due {
+            Ok(Ending {
                 status: Status::BadScript,
                 text,
             })
@@ -172,17 +179,17 @@ fn replies_due(alloc: Global, taken: &[u8]) -> Result<Due, NoMemory>
 }
 
 // The lines that show the blobs of lines of hex digits, or the first line that isn't hex.
-fn lines_due(alloc: Global, taken: &[u8]) -> Result<Due, NoMemory>
-    ensures { IfOk result (IsPreparedFor Task.Show taken.now) }
+fn lines_ending(alloc: Global, taken: &[u8]) -> Result<Ending, NoMemory>
+    ensures { IfOk result (IsEndingFor Task.Show taken.now) }
 {
     match show(alloc, taken) {
-        Ok(text) => Ok(Due {
+        Ok(text) => Ok(Ending {
             status: Status::Done,
             text,
         }),
         Err(ShowFault::NotHex { line }) => {
             let text = bad_line_text(alloc, line, "NotHex")?;
-            Ok(Due {
+            Ok(Ending {
                 status: Status::BadScript,
                 text,
             })

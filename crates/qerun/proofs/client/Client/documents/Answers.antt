@@ -2,7 +2,7 @@ use Rattle.std.proofs.Common.{◌≡◌, ◌∷◌, [], ◌++◌, ◌+◌, drop,
 use Rattle.std.proofs.lemmas.List.{drop_more, drop_all}
 use Rattle.std.proofs.lemmas.Result.{err_from_is_err_and}
 use Rattle.qerun.specs.Opening.{value_in, documents_in}
-use Rattle.qerun.proofs.OpeningLemmas.{behind-nothing, behind-all, behind-one, behind-fault, opens_on}
+use Rattle.qerun.proofs.OpeningLemmas.{behind-nothing, behind-all, behind-one, behind-fault, refuses_on}
 use Rattle.qerun.proofs.client.Client.documents.Goals as goal
 
 pub loop-one-init : goal.loop-one-init
@@ -15,9 +15,9 @@ returns-in_err-value c header is =
     drop_more c.args.stored.now i c.one-item.result c.loop-one-test.true ∙ ap (λ one. one ∷ drop (i + 1) c.args.stored.now) (sym c.one-item.is) in
     let p = err_from_is_err_and c.from_residual.result c.from_residual.ensures.1 in
     rw (p.1, p.2)
-    (opens_on c.in_err-value.field-0.0 (value_in header c.one-item.result.value) (documents_in header c.args.stored.now)
+    (refuses_on c.in_err-value.field-0.0 (value_in header c.one-item.result.value) (documents_in header c.args.stored.now)
     (rw (c.slice.ensures) at (c.in_err-value.ensures header is))
-    (λ refused. behind-fault header c.loop-one.documents _ _ c.one-item.result _ first refused ∙ c.loop-one.invariant header is))
+    (λ refused. sym (c.loop-one.invariant header is) ∙ behind-fault header c.loop-one.documents _ _ c.one-item.result _ first refused))
 
 pub loop-one-preserved : goal.loop-one-preserved
 loop-one-preserved c header is =
@@ -31,5 +31,5 @@ loop-one-preserved c header is =
 
 pub returns : goal.returns
 returns c header is =
-    sym (behind-all header c.loop-one.documents _ (drop_all c.loop-one.one-index c.args.stored.now c.loop-one-test.false))
-    ∙ c.loop-one.invariant header is
+    sym (c.loop-one.invariant header is)
+    ∙ behind-all header c.loop-one.documents _ (drop_all c.loop-one.one-index c.args.stored.now c.loop-one-test.false)

@@ -1,6 +1,6 @@
 use Rattle.std.proofs.Common.{◌≡◌, ap, ◌∙◌}
 use Rattle.qerun.specs.Text.{replies_text}
-use Rattle.qerun.proofs.top.replies_due.Goals as goal
+use Rattle.qerun.proofs.top.replies_ending.Goals as goal
 
 pub returns-in_ok-text-in-Ok : goal.returns-in_ok-text-in-Ok
 returns-in_ok-text-in-Ok c =

@@ -1,5 +1,7 @@
-ghost use Rattle.qe_base.specs.Bytes.{AreBytes};
+//! Slices and arrays as lists of bytes, which laws ask for.
+
 ghost use Rattle.qe_aes.specs.Laws.{IsBlock};
+ghost use Rattle.qe_base.specs.Bytes.{AreBytes};
 
 /// The items of a slice of bytes are bytes, as laws of lists of numbers ask.
 pub fn are_bytes(bytes: &[u8])
