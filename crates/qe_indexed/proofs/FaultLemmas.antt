@@ -1,7 +1,7 @@
 -- The first refusal, by the first byte.
 use Rattle.std.proofs.Common.{◌≡◌, ◌≢◌, ℕ, List, [], ◌∷◌, length, refl, ap, sym, ◌∙◌, Option, Some, None}
 use Rattle.std.proofs.lemmas.Bool.{ne_eqb}
-use Rattle.std.specs.Prelude.{slice_get, slice_index, Result, Ok, Err}
+use Rattle.std.specs.Prelude.{slice_get, slice_index, Err}
 use Rattle.qe_base.specs.Answers.{Refuses}
 use Rattle.qe_indexed.specs.declared.fault.IndexedFault.{IndexedFault}
 use Rattle.qe_indexed.specs.declared.fault.IndexedFault.TheVariants.{Short, BlobSubtype}

@@ -1,8 +1,7 @@
 -- The parts that bytes are cut into are those of the value that they are laid out as.
-use Rattle.std.proofs.Common.{◌≡◌, ◌≢◌, ℕ, ◌+◌, ◌*◌, ◌-◌, ◌≤◌, List, [], ◌∷◌, ◌++◌, length, take, drop, get_or, refl, ap, sym, ◌∙◌, arith, Bool, true, false, ◌==◌, if◌then◌else◌, Option, Some, None, Result, Ok, Err, length-drop, subst}
+use Rattle.std.proofs.Common.{◌≡◌, ◌≢◌, ℕ, ◌*◌, ◌-◌, ◌≤◌, List, [], ◌∷◌, ◌++◌, length, take, drop, refl, ap, sym, ◌∙◌, arith, Bool, true, false, ◌==◌, if◌then◌else◌, Some, None, Ok, Err, length-drop}
 use Rattle.std.specs.Prelude.{slice_get, slice_index}
-use Rattle.std.proofs.lemmas.List.{take_at, drop_at, drop-drop, drop_more, get_or-append_right}
-use Rattle.qe_indexed.specs.declared.fault.IndexedFault.{IndexedFault}
+use Rattle.std.proofs.lemmas.List.{take_at, drop_at, drop-drop, drop_more}
 use Rattle.qe_indexed.specs.declared.fault.IndexedFault.TheVariants.{Short, BlobSubtype}
 use Rattle.qe_indexed.specs.Parts.{Indexed, most_blocks}
 use Rattle.qe_indexed.specs.Spelling.{first_byte, edge_count, joined, head_length, IsLaidOut, HasShape}

@@ -47,9 +47,9 @@ pub(crate) fn deciphered(
     let mut plain = Vec::with_capacity(alloc, bytes.len())?;
     let mut before = *iv;
     for i in 0..bytes.len() / BLOCK_LEN {
-        let block = array_at(bytes, BLOCK_LEN * i);
-        plain.extend_from_slice(&combined(cipher.decrypt(block), &before))?;
-        before = block;
+        let enciphered = array_at(bytes, BLOCK_LEN * i);
+        plain.extend_from_slice(&combined(cipher.decrypt(enciphered), &before))?;
+        before = enciphered;
     }
     Ok(plain)
 }

@@ -1,5 +1,5 @@
 use Rattle.std.proofs.Common.{◌≡◌, true, ap, ◌∙◌, sym}
-use Rattle.qe_indexed.specs.Block.{numbers_in, zeros_in}
+use Rattle.qe_indexed.specs.Block.{zeros_in}
 use Rattle.qe_indexed.proofs.BlockLemmas.{numbers_in-is, zeros_in-is, numbers_in-made, zeros_in-made}
 use Rattle.qe_indexed.proofs.block.open_block.Goals as goal
 

@@ -6,10 +6,10 @@ use Rattle.qe_seal.proofs.blocks.deciphered.Goals as goal
 
 pub loop-i-preserved : goal.loop-i-preserved
 loop-i-preserved c =
-    let sum_is : c.combined.result ≡ xor_bytes (inv_aes_256 c.args.key.now c.array_at-block.result) c.loop-i.before = cc in
-    ap (λ done. done ++ plain_from c.args.key.now c.array_at-block.result c.args.bytes.now (c.loop-i.i + 1)) c.in_ok-extend_from_slice.ensures.items
-    ∙ plain_from-next c.args.key.now c.loop-i.before c.args.bytes.now c.array_at-block.result c.combined.result c.loop-i.plain.items c.loop-i.i
-    (omega arith) c.array_at-block.ensures sum_is
+    let sum_is : c.combined.result ≡ xor_bytes (inv_aes_256 c.args.key.now c.array_at-enciphered.result) c.loop-i.before = cc in
+    ap (λ done. done ++ plain_from c.args.key.now c.array_at-enciphered.result c.args.bytes.now (c.loop-i.i + 1)) c.in_ok-extend_from_slice.ensures.items
+    ∙ plain_from-next c.args.key.now c.loop-i.before c.args.bytes.now c.array_at-enciphered.result c.combined.result c.loop-i.plain.items c.loop-i.i
+    (omega arith) c.array_at-enciphered.ensures sum_is
     ∙ c.loop-i.invariant
 
 pub returns : goal.returns

@@ -1,4 +1,4 @@
-use Rattle.std.proofs.Common.{◌≡◌, take, drop, ap, sym, ◌∙◌}
+use Rattle.std.proofs.Common.{drop, ap, sym, ◌∙◌}
 use Rattle.std.proofs.lemmas.List.{take_rest}
 use Rattle.qe_seal.specs.Cbc.{cbc_decryption}
 use Rattle.qe_seal.specs.Sealed.{encryption_key, seal_answer}
