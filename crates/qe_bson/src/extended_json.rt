@@ -4,8 +4,6 @@ mod fault;
 mod forms;
 mod laws;
 mod reading;
-#[cfg(test)]
-mod tests;
 mod writing;
 
 pub use fault::JsonFault;

@@ -16,9 +16,9 @@ pub use extended_json::{
     to_json, what_is_printed_is_read_again, what_is_unprintable,
 };
 pub use qe_document::{
-    BsonFault, BsonKind, Document, ElementType, EncodeFault, MOST_BYTES, MOST_LEVELS, Plain, PushFault,
-    Value, Values, decode, encode, lengths_are_sums, value_bytes, value_from, value_kind,
-    what_begins_bytes_is_read, what_fits_is_written, what_spells_a_value_is_read,
+    BsonFault, BsonKind, Document, ElementType, EncodeFault, MOST_BYTES, MOST_LEVELS, Plain,
+    PushFault, Value, Values, decode, encode, lengths_are_sums, value_bytes, value_from,
+    value_kind, what_begins_bytes_is_read, what_fits_is_written, what_spells_a_value_is_read,
 };
 pub use reader::{
     Reader, a_cut_stream_gives_the_documents_of_the_whole, more_bytes_leave_what_is_decided,

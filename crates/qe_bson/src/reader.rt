@@ -34,7 +34,7 @@ impl Model for Reader {
     ghost view = { λ r. (r.held.items, r.fault) };
 
     ghost use Rattle.qe_bson.specs.Runs.{Fields, State, Runs, joined, Begin_with, Ends};
-ghost use Rattle.qe_bson.specs.Stream.{IsWaiting};
+    ghost use Rattle.qe_bson.specs.Stream.{IsWaiting};
 
     ghost invariant = { λ r. IsWaiting (r.held.items, r.fault) };
 }

@@ -1,5 +1,5 @@
 -- What fits has no more levels than its room and no name with a byte 0, so it is written; and so is each of its values alone.
-use Rattle.std.proofs.Common.{◌≡◌, ltb, Result, Ok, Err, ℕ, zero, suc, ◌+◌, ◌≤◌, ◌||◌, Bool, true, false, List, [], ◌∷◌, ◌++◌, length, map, if◌then◌else◌, Option, Some, None, refl, subst, sym, ap, ◌∙◌, arith, rules}
+use Rattle.std.proofs.Common.{◌≡◌, ltb, Result, Ok, Err, ℕ, zero, suc, ◌+◌, ◌≤◌, Bool, true, false, List, [], ◌∷◌, length, map, if◌then◌else◌, Some, refl, subst, sym, ap, ◌∙◌, arith, rules}
 use Rattle.std.specs.Prelude.{bytes_eq, IfOk, IfErr}
 use Rattle.std.specs.List.{AllByRecursion}
 use Rattle.std.proofs.lemmas.Bool.{or_from, le-ltb, lt-ltb}
@@ -14,8 +14,8 @@ use Rattle.qe_document.specs.Faults.{encode_refusal}
 use Rattle.qe_document.specs.Names.{value_named}
 use Rattle.qe_document.specs.Reading.{alone_at}
 use Rattle.qe_document.specs.Types.{type_byte}
-use Rattle.qe_document.specs.Spelling.{Spelled, element, framed, fields_bytes, spelled, spelled_field, document_bytes, Fits_with, FieldsFit, ItemsFit, IsDocument}
-use Rattle.qe_document.specs.Measures.{greatest, depth, fields_depth, items_depth, holds_zero, any_true, zero_in, zero_in_fields, zero_in_items}
+use Rattle.qe_document.specs.Spelling.{element, fields_bytes, spelled, spelled_field, document_bytes, Fits_with, FieldsFit, ItemsFit, IsDocument}
+use Rattle.qe_document.specs.Measures.{greatest, depth, fields_depth, items_depth, zero_in, zero_in_fields, zero_in_items}
 use Rattle.qe_document.specs.Writing.{written_as, IsWhyRefused, WritingLaws}
 use Rattle.qe_document.proofs.AloneLemmas.{alone_length, alone_fits, alone_again}
 use Rattle.qe_document.proofs.ValueAgain.{short_counted}

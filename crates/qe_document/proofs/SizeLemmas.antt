@@ -1,5 +1,5 @@
 -- How many bytes a value and a document have.
-use Rattle.std.proofs.Common.{◌≡◌, ℕ, ℤ, suc, ◌+◌, Bool, List, [], ◌∷◌, ◌++◌, length, map, decimal, refl, ap, subst, ◌∙◌, arith, rules}
+use Rattle.std.proofs.Common.{◌≡◌, ℕ, ℤ, suc, ◌+◌, Bool, List, [], ◌∷◌, length, map, decimal, refl, subst, arith, rules}
 use Rattle.std.proofs.lemmas.List.{length-append}
 use Rattle.std.proofs.lemmas.Simd.{map-map}
 use Rattle.qe_document.specs.declared.value.Plain.{Plain, roll-Plain, ind-Plain, the_lemmas}

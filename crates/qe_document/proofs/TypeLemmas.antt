@@ -1,5 +1,5 @@
 -- A type and its byte.
-use Rattle.std.proofs.Common.{◌≡◌, ℕ, eqb, true, false, Option, Some, None, refl, sym, ap, ◌∙◌, inl, inr}
+use Rattle.std.proofs.Common.{◌≡◌, ℕ, eqb, true, false, Some, refl, ap, ◌∙◌, inl, inr}
 use Rattle.std.proofs.lemmas.Bool.{eqb-true}
 use Rattle.qe_document.specs.declared.element_type.ElementType.{ElementType}
 use Rattle.qe_document.specs.declared.element_type.ElementType.TheVariants as type

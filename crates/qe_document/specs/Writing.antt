@@ -1,5 +1,5 @@
 -- What writing answers.
-use Rattle.std.specs.Prelude.{◌≡◌, ℕ, ◌+◌, ◌<◌, ◌≤◌, nat_lt, true, List, [], ◌∷◌, ◌++◌, length, map, if◌then◌else◌, Option, Some, Result, Ok, Err}
+use Rattle.std.specs.Prelude.{◌≡◌, ℕ, ◌+◌, ◌<◌, ◌≤◌, nat_lt, true, List, [], ◌∷◌, ◌++◌, length, map, if◌then◌else◌, Some, Result, Ok, Err}
 use Rattle.qe_document.specs.declared.fault.EncodeFault.{EncodeFault}
 use Rattle.qe_document.specs.declared.fault.EncodeFault.TheVariants.{TooLong, TooDeep, ZeroInName, NoMemory}
 use Rattle.qe_document.specs.declared.value.Plain.{Plain, out-Plain}

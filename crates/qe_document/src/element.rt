@@ -24,10 +24,7 @@ pub(crate) fn at(until: usize, bytes: &[u8], kind: BsonKind) -> BsonFault
 }
 
 /// The type of the next element, and what follows its byte, or none at the document's last byte.
-pub(crate) fn begins(
-    until: usize,
-    bytes: &[u8],
-) -> Result<Option<(ElementType, &[u8])>, BsonFault>
+pub(crate) fn begins(until: usize, bytes: &[u8]) -> Result<Option<(ElementType, &[u8])>, BsonFault>
     ensures { Answers (λ o. option_map (λ x. (x.0, x.1.now)) o) bson_refusal result (begins_at until bytes.now) }
 {
     match bytes {

@@ -11,11 +11,11 @@ ghost use Rattle.qe_document.specs.Views.{plain, field_view, taken_value, taken_
 ghost use Rattle.qe_document.specs.declared.element_type.ElementType.TheVariants.{Doc, Array};
 ghost use Rattle.qe_document.specs.declared.value.Plain.{Plain};
 
+use crate::element::{at, begins, binary, boolean, fixed, frame, name, string};
+use crate::element_type::ElementType;
 use crate::fault::{BsonFault, BsonKind};
 use crate::limits::{MOST_BYTES, MOST_LEVELS};
 use crate::names::is_new;
-use crate::element::{at, begins, binary, boolean, fixed, frame, name, string};
-use crate::element_type::ElementType;
 use crate::value::{Document, Value, Values};
 use itoa::Buffer;
 use qe_base::Text;

@@ -37,7 +37,10 @@ fn put(out: &mut Vec<u8>, bytes: &[u8]) -> Result<(), EncodeFault>
 fn put_head(out: &mut Vec<u8>, kind: u8, name: &str) -> Result<(), EncodeFault>
     ensures { Writes out.old.items out.new.items result (kind ∷ (name.now ++ (0 ∷ []))) }
 {
-    if out.len() > MOST_BYTES || name.len() > MOST_BYTES || out.len() + name.len() + 2 > MOST_BYTES {
+    if out.len() > MOST_BYTES
+        || name.len() > MOST_BYTES
+        || out.len() + name.len() + 2 > MOST_BYTES
+    {
         return Err(EncodeFault::TooLong);
     }
     out.push(kind)?;
@@ -50,7 +53,10 @@ fn put_head(out: &mut Vec<u8>, kind: u8, name: &str) -> Result<(), EncodeFault>
 fn put_string(out: &mut Vec<u8>, text: &str) -> Result<(), EncodeFault>
     ensures { Writes out.old.items out.new.items result (string text.now) }
 {
-    if out.len() > MOST_BYTES || text.len() > MOST_BYTES || out.len() + text.len() + 5 > MOST_BYTES {
+    if out.len() > MOST_BYTES
+        || text.len() > MOST_BYTES
+        || out.len() + text.len() + 5 > MOST_BYTES
+    {
         return Err(EncodeFault::TooLong);
     }
     out.extend_from_slice(&(text.len() as u32 + 1).to_le_bytes())?;
@@ -63,7 +69,10 @@ fn put_string(out: &mut Vec<u8>, text: &str) -> Result<(), EncodeFault>
 fn put_binary(out: &mut Vec<u8>, subtype: u8, bytes: &[u8]) -> Result<(), EncodeFault>
     ensures { Writes out.old.items out.new.items result (binary_bytes subtype bytes.now) }
 {
-    if out.len() > MOST_BYTES || bytes.len() > MOST_BYTES || out.len() + bytes.len() + 5 > MOST_BYTES {
+    if out.len() > MOST_BYTES
+        || bytes.len() > MOST_BYTES
+        || out.len() + bytes.len() + 5 > MOST_BYTES
+    {
         return Err(EncodeFault::TooLong);
     }
     out.extend_from_slice(&(bytes.len() as u32).to_le_bytes())?;

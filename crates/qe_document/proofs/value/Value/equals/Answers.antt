@@ -1,4 +1,4 @@
-use Rattle.std.proofs.Common.{ap, subst}
+use Rattle.std.proofs.Common.{subst}
 use Rattle.qe_document.specs.Spelling.{IsAlone}
 use Rattle.qe_document.specs.Views.{plain}
 use Rattle.qe_document.proofs.AloneLemmas.{alone_one}
