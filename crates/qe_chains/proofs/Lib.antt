@@ -1,0 +1,9 @@
+mod LinkLemmas
+mod ListLemmas
+mod KeyLemmas
+mod NodeLemmas
+mod TableLemmas
+mod LinkedLemmas
+mod UnlinkedLemmas
+mod ReadLemmas
+mod CallLemmas

@@ -1,0 +1,4 @@
+pub mod Linked
+pub mod Nodes
+pub mod Pairs
+pub mod Sound
