@@ -9,10 +9,10 @@ ghost use Rattle.qerun.specs.Client.{IsClientOf, HasBytes, IsSent, Sends, tokens
 ghost use Rattle.qerun.specs.Opening.{kept_fault, int32_of, sealed_in, value_in, documents_in, reply_to};
 
 use crate::answer::Answer;
+use crate::bytes::{are_bytes, is_block};
 use crate::document::Document;
 use crate::draws::{Draws, SEALED_IV};
 use crate::opening::{OpenFault, int32};
-use crate::bytes::{are_bytes, is_block};
 use crate::reply::Reply;
 use crate::request::{Payload, Request, WordTokens};
 use crate::stored::{ServerIvs, Stored, deciphered};

@@ -6,11 +6,11 @@
 #![tactic(auto)]
 
 mod answer;
+mod bytes;
 mod client;
 mod document;
 mod draws;
 mod opening;
-mod bytes;
 mod reply;
 mod request;
 mod run;

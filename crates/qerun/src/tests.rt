@@ -18,12 +18,7 @@ const LINES: &[u8] = b"{\"do\":\"insert\",\"doc\":{\"_id\":1,\"age\":5}}
 {\"do\":\"find\",\"filter\":{\"age\":5}}";
 
 // The status, and what the sink holds, where the read calls of these numbers fail and the sink has so much room.
-fn played(
-    alloc: Global,
-    word: &str,
-    failing: &[u8],
-    room: u64,
-) -> Result<(Status, Vec<u8>), Fail> {
+fn played(alloc: Global, word: &str, failing: &[u8], room: u64) -> Result<(Status, Vec<u8>), Fail> {
     let mut bytes = Bytes::from_slice(alloc, HEADER)?;
     bytes.extend(LINES)?;
     let words = vec![in alloc; String::from_str(alloc, word)?]?;
