@@ -4,5 +4,4 @@ pub mod DigitLemmas
 pub mod HashLemmas
 pub mod LawLemmas
 pub mod ListedLemmas
-pub mod PairLemmas
 pub mod RisingLemmas

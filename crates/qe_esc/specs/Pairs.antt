@@ -1,5 +1,5 @@
 -- The two numbers in an anchor's value: how many anchors a cleanup has taken out, and how many positions are counted.
-use Rattle.std.specs.Prelude.{ℕ, zero, suc, ◌+◌, ◌%◌, ◌^◌, List, Option, Some}
+use Rattle.std.specs.Prelude.{ℕ, ◌+◌, ◌%◌, ◌^◌, List, Option, Some, ◌==◌, if◌then◌else◌}
 use Rattle.std.specs.FinMap.{get}
 use Rattle.qe_seal.specs.Enciphered.{enciphered_pair, deciphered_pair}
 use Rattle.qe_tokens.specs.Tokens.{esc_value_of}
@@ -24,7 +24,11 @@ pair_of token row = (0, 0)
 unfoldable pub null_pair : Rows → List ℕ → ℕ × ℕ
 null_pair rows token = pair_of token (get rows (id_of Anchor token 0))
 
--- how many positions are counted by the last of `hop` anchors, or by the null anchor where there is none
+-- how many positions are counted by the last of `hop` anchors behind a null anchor of these numbers, or by it where there is none
+abbrev pub base_behind : Rows → List ℕ → ℕ × ℕ → ℕ → ℕ
+base_behind rows token null hop =
+    if hop == 0 then null.1 else (pair_of token (get rows (id_of Anchor token ((null.0 + hop) % 2 ^ 64)))).1
+
+-- the base of a search that counts `hop` anchors
 unfoldable pub base_of : Rows → List ℕ → ℕ → ℕ
-base_of rows token zero = (null_pair rows token).1
-base_of rows token (suc n) = (pair_of token (get rows (id_of Anchor token (((null_pair rows token).0 + suc n) % 2 ^ 64)))).1
+base_of rows token hop = base_behind rows token (null_pair rows token) hop

@@ -1,7 +1,11 @@
 //! The search of a token.
 
 ghost use Rattle.std.specs.Prelude.{◌≡◌, ◌+◌, ◌*◌, ◌<◌, ◌≤◌};
-ghost use Rattle.qe_esc.specs.Pairs.{pair_of};
+ghost use Rattle.std.specs.FinMap.{get};
+ghost use Rattle.qe_esc.specs.Rows.{has};
+ghost use Rattle.qe_esc.specs.Identifiers.{id_of};
+ghost use Rattle.qe_esc.specs.Pairs.{pair_of, base_behind};
+ghost use Rattle.qe_esc.specs.declared.key.RowKind.TheVariants.{Anchor};
 ghost use Rattle.qe_esc.specs.Digits.{digits};
 ghost use Rattle.qe_esc.specs.Found.{IsFound};
 
@@ -18,20 +22,14 @@ pub fn emu<V: RowView, L: Ledger>(rows: &V, token: &EscContention, steps: &mut S
     ensures probes { steps.new ≤ steps.old + (2 * digits result.hop + 2 * digits result.count + 6) }
 {
     let key = RowKey::new(token);
-    let null = rows.probe(&key.id(RowKind::Anchor, 0), steps);
-    let (null_apos, null_cpos) = pair_of(&key, null);
-    let anchors = hop(rows, &key, RowKind::Anchor, null_apos, steps);
-    let base = if anchors == 0 {
-        null_cpos
-    } else {
-        let last = key.id(RowKind::Anchor, null_apos.wrapping_add(anchors));
-        pair_of(&key, rows.probe(&last, steps)).1
-    };
+    let null = anchor_at(rows, &key, 0, steps);
+    let anchors = hop(rows, &key, RowKind::Anchor, null.pair.0, steps);
+    let base = base_behind(rows, &key, null.pair, anchors, steps);
     let count = hop(rows, &key, RowKind::Position, base, steps);
     Emu {
-        has_null: null.is_some(),
-        null_apos,
-        null_cpos,
+        has_null: null.there,
+        null_apos: null.pair.0,
+        null_cpos: null.pair.1,
         hop: anchors,
         base,
         count,
@@ -55,12 +53,49 @@ fn emu_on<V: RowView, L: Ledger>(rows: &V, token: &EscContention, blank: Blank) 
     emu(rows, token, &mut Steps::<L>::new(blank))
 }
 
-// The numbers of what stands at an anchor's identifier.
-fn pair_of(key: &RowKey, row: Option<Option<[u8; 32]>>) -> (u64, u64)
-    ensures { result ≡ pair_of key.now row }
+// What stands at an anchor's identifier: whether there is a row, and the numbers in its value, 0 where it has none.
+#[derive(Clone, Copy)]
+struct Found {
+    there: bool,
+    pair: (u64, u64),
+}
+
+// Looks for an anchor.
+fn anchor_at<V: RowView, L: Ledger>(
+    rows: &V,
+    key: &RowKey,
+    number: u64,
+    steps: &mut Steps<L>,
+) -> Found
+    ensures there { result.there ≡ has (V.rows rows.now) (id_of Anchor key.now number) }
+    ensures pair { result.pair ≡ pair_of key.now (get (V.rows rows.now) (id_of Anchor key.now number)) }
+    ensures step { steps.new ≡ steps.old + 1 }
 {
-    match row {
-        Some(Some(value)) => key.open(&value),
-        _ => (0, 0),
+    let row = rows.probe(&key.id(RowKind::Anchor, number), steps);
+    Found {
+        there: row.is_some(),
+        pair: match row {
+            Some(Some(value)) => key.open(&value),
+            _ => (0, 0),
+        },
     }
+}
+
+// How many positions are counted by the last of so many anchors.
+fn base_behind<V: RowView, L: Ledger>(
+    rows: &V,
+    key: &RowKey,
+    null: (u64, u64),
+    anchors: u64,
+    steps: &mut Steps<L>,
+) -> u64
+    ensures base { result ≡ base_behind (V.rows rows.now) key.now null anchors }
+    ensures step { steps.new ≤ steps.old + 1 }
+{
+    if anchors == 0 {
+        return null.1;
+    }
+    anchor_at(rows, key, null.0.wrapping_add(anchors), steps)
+        .pair
+        .1
 }
