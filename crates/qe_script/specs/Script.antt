@@ -1,5 +1,5 @@
 -- What a script is: its first line that isn't blank is the header, each other one a command.
-use Rattle.std.specs.Prelude.{◌≡◌, ℕ, List, [], ◌∷◌, Option, Some, None, Result, Ok, Err, FitsSigned}
+use Rattle.std.specs.Prelude.{ℕ, List, [], ◌∷◌, Option, Some, None, Result, Ok, Err, FitsSigned}
 use Rattle.std.specs.Int.{w32}
 use Rattle.qe_base.specs.Lines.{placed_lines}
 use Rattle.qe_script.specs.declared.script.Command.{Command}

@@ -1,5 +1,5 @@
 -- Values that are opened one after another.
-use Rattle.std.proofs.Common.{◌≡◌, Bool, true, false, not, ℕ, ℤ, List, [], ◌∷◌, ◌++◌, take, drop, true, false, Result, Ok, Err, refl, sym, ap, append_assoc, append-nil}
+use Rattle.std.proofs.Common.{◌≡◌, Bool, true, false, not, ℕ, ℤ, List, [], ◌∷◌, ◌++◌, take, drop, true, false, Result, Ok, Err, refl, ap, append_assoc, append-nil}
 use Rattle.std.specs.Str.{bytes_eq}
 use Rattle.qe_script.specs.declared.script.Header.{Header}
 use Rattle.qe_base.specs.Answers.{Refuses, Answers}

@@ -1,6 +1,5 @@
-use Rattle.std.proofs.Common.{◌≡◌, ◌++◌, ◌∷◌, [], ◌+◌, sym, ap, ◌∙◌, refl, append_assoc, append-nil}
+use Rattle.std.proofs.Common.{◌≡◌, ◌++◌, ◌∷◌, [], sym, ap, ◌∙◌, refl, append_assoc, append-nil}
 use Rattle.qe_show.proofs.LineLemmas.{is_none, is_some, shows_empty, not_hex_empty, shows_line, not_hex_line, not_hex_here}
-use Rattle.qe_show.specs.Lines.{Shows, first_not_hex}
 use Rattle.qe_show.proofs.lines.show.Goals as goal
 
 pub loop-passed-preserved-then-is_empty : goal.loop-passed-preserved-then-is_empty
