@@ -1,0 +1,5 @@
+mod CellLemmas
+mod DomainLemmas
+mod GaveLemmas
+mod ResolvedLemmas
+mod SchemaLemmas

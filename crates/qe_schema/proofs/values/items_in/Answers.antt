@@ -1,0 +1,6 @@
+use Rattle.std.proofs.Common.{sym, ◌∙◌}
+use Rattle.qe_document.proofs.ViewLemmas.{items_of-plain}
+use Rattle.qe_schema.proofs.values.items_in.Goals as goal
+
+pub returns : goal.returns
+returns c = c.as_array.ensures ∙ sym (items_of-plain c.args.value.now)

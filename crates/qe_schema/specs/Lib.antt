@@ -1,0 +1,17 @@
+pub mod Cells
+pub mod Collection
+pub mod Faults
+pub mod Filters
+pub mod Fits
+pub mod Judgements
+pub mod Keys
+pub mod Lookup
+pub mod Names
+pub mod Pairs
+pub mod Reading
+pub mod Resolve
+pub mod Resolved
+pub mod Schema
+pub mod Shape
+pub mod Slots
+pub mod Values
