@@ -72,7 +72,7 @@ filled-poured : {A : Type 0} (reads : Reader A) (rows : Rows) (elements : List E
 filled-poured reads rows [] slots same = refl
 filled-poured reads rows (e ∷ elements) slots same =
     elim (reads e.0 e.1) as (λ read. bind (map_read (λ part. with_slot (place_from e.0 0 rows) (Some part) slots) read) (λ next. filled reads rows elements next)
-      ≡ bind (bind read (λ _. checked reads elements)) (λ _. Ok (poured reads rows elements (placed e.0 (part_in read) rows slots)))) [
+    ≡ bind (bind read (λ _. checked reads elements)) (λ _. Ok (poured reads rows elements (placed e.0 (part_in read) rows slots)))) [
       | Err refusal ↦ refl
       | Ok part ↦
           ap (λ next. filled reads rows elements next) (placed-at e.0 (Some part) rows [] slots 0 refl same)

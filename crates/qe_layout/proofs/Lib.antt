@@ -4,3 +4,4 @@ pub mod PlainLemmas
 pub mod ItemLemmas
 pub mod LaidLemmas
 pub mod WrittenLemmas
+pub mod BlobLemmas

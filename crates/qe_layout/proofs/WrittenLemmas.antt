@@ -75,8 +75,8 @@ written-slots reads spell (row ∷ rows) (Some part ∷ slots) elements apart ea
     (same row.0 (rw (itself row.0) refl) ∙ cond-true (bytes_eq row.0 row.0) (Some (spell part)) (value_named row.0 (written spell rows slots)) (itself row.0), each.0),
   ),
   written-slots reads spell rows slots elements apart.1 each.1 (λ name named.
-    let other = other-name name row.0 rows named apart.0 in
-    same name (rw other named) ∙ cond-false (bytes_eq name row.0) (Some (spell part)) (value_named name (written spell rows slots)) other),
+      let other = other-name name row.0 rows named apart.0 in
+      same name (rw other named) ∙ cond-false (bytes_eq name row.0) (Some (spell part)) (value_named name (written spell rows slots)) other),
 )
 
 -- the written elements are laid out

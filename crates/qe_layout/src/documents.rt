@@ -76,7 +76,8 @@ pub fn bounded_items<I: Item>(
 {
     let values = array(alloc, name, value)?;
     check_count(alloc, name, bounds, values.len())?;
-    inside(alloc, name, each(alloc, item, values))
+    let read = each(alloc, item, values);
+    inside(alloc, name, read)
 }
 
 #[tactic(auto, using(crate::proofs::PlainLemmas::parts_of_plain))]

@@ -108,11 +108,7 @@ fn place_of<L: Layout>(layout: &L, name: &str) -> Option<usize>
 }
 
 // Refuses the first needed row whose slot is empty.
-fn check_rows<L: Layout>(
-    alloc: Global,
-    layout: &L,
-    slots: &Slots<L::Part>,
-) -> Result<(), Malformed>
+fn check_rows<L: Layout>(alloc: Global, layout: &L, slots: &Slots<L::Part>) -> Result<(), Malformed>
     ensures { Reads result (complete_in (L.rows layout.now) slots.now) }
 {
     for place in 0..layout.count() {

@@ -1,12 +1,6 @@
-pub mod ElementLemmas
-pub mod TableLemmas
-pub mod ScanLemmas
-pub mod BlobLemmas
-pub mod EqualLemmas
-pub mod ArrayLemmas
+pub mod CarriedLemmas
+pub mod LawLemmas
 pub mod EntryLemmas
-pub mod EdgeLemmas
-pub mod InsertLemmas
-pub mod PickedLemmas
-pub mod RangeLemmas
-pub mod RangeWrittenLemmas
+pub mod WriteLemmas
+pub mod ExtraLemmas
+pub mod FitLemmas

@@ -1,47 +1,44 @@
 -- FindEqualityPayloadV2 of libmongocrypt: tokens of an item, and the greatest contention factor.
-use Rattle.std.specs.Prelude.{◌≡◌, ℕ, List, [], ◌∷◌, length, codes, Option}
-use Rattle.qe_document.specs.Names.{Distinct}
+use Rattle.std.specs.Prelude.{ℕ, ◌≡◌, List, [], ◌∷◌, length, codes, Option, Result}
 use Rattle.qe_document.specs.Spelling.{document_bytes}
 use Rattle.qe_document.specs.declared.value.Plain.TheVariants.{Binary, Int64}
+use Rattle.qe_layout.specs.Blobs.{opened, IsBlob}
+use Rattle.qe_layout.specs.Layouts.{Element, Reader, Row, Rows, needed, rows_of, reads_of, in_slot, built, IsBuilt}
+use Rattle.qe_layout.specs.Refusal.{Refusal, bind}
 use Rattle.qe_payload.specs.declared.equal.FindEqual.{FindEqual}
-use Rattle.qe_payload.specs.declared.malformed.Kind.TheVariants.{Missing}
-use Rattle.qe_payload.specs.Refusal.{Refusal}
-use Rattle.qe_payload.specs.Shapes.{token, natural}
-use Rattle.qe_payload.specs.Elements.{Element, Rule, Table, Needs, by_table, document_refusal, HasBinary, HasNatural, HasOnly}
-use Rattle.qe_payload.specs.Blobs.{blob_refusal, IsBlob}
+use Rattle.qe_payload.specs.declared.parts.Part.{Part}
+use Rattle.qe_payload.specs.Parts.{token, number, token_in, number_in}
 
-abbrev pub equal_table : Table
-equal_table = (codes "d", token) ∷ (codes "s", token) ∷ (codes "l", token) ∷ (codes "cm", natural) ∷ []
+abbrev pub equal_table : List (Row Part)
+equal_table = needed (codes "d") token ∷ needed (codes "s") token ∷ needed (codes "l") token ∷ needed (codes "cm") number ∷ []
 
-abbrev pub equal_names : List (List ℕ)
-equal_names = codes "d" ∷ codes "s" ∷ codes "l" ∷ codes "cm" ∷ []
+abbrev pub equal_rows : Rows
+equal_rows = rows_of equal_table
 
-abbrev pub equal_needs : Needs
-equal_needs = (codes "d", Missing) ∷ (codes "s", Missing) ∷ (codes "l", Missing) ∷ (codes "cm", Missing) ∷ []
+unfoldable pub equal_reads : Reader Part
+equal_reads name value = reads_of equal_table name value
 
-unfoldable pub equal_rule : Rule
-equal_rule name value = by_table equal_table name value
+abbrev pub equal_build : List (Option Part) → FindEqual
+equal_build slots =
+    record { d = token_in (in_slot slots 0); s = token_in (in_slot slots 1); l = token_in (in_slot slots 2); cm = number_in (in_slot slots 3) }
 
-unfoldable pub equal_refusal : List Element → Option Refusal
-equal_refusal elements = document_refusal equal_rule equal_needs elements
+-- the payload of a document's elements, or the first refusal
+unfoldable pub equal_of : List Element → Result FindEqual Refusal
+equal_of elements = built equal_reads equal_rows equal_build elements
+
+-- the payload of a blob, whose first byte is 12
+unfoldable pub equal_at : List ℕ → Result FindEqual Refusal
+equal_at blob = bind (opened 12 blob) equal_of
 
 -- each element once, in any order, and no other
-pub record IsEqual (payload : FindEqual) (elements : List Element) : Type 0 where
-  pub d : HasBinary elements (codes "d") 0 32 payload.d
-  pub s : HasBinary elements (codes "s") 0 32 payload.s
-  pub l : HasBinary elements (codes "l") 0 32 payload.l
-  pub cm : HasNatural elements (codes "cm") payload.cm
-  pub only : HasOnly equal_names elements
-  pub distinct : Distinct elements
+abbrev pub IsEqual : FindEqual → List Element → Type 0
+IsEqual payload elements = IsBuilt equal_reads equal_rows equal_build payload elements
 
 -- the first byte is 12
 pub record IsEqualBlob (payload : FindEqual) (blob : List ℕ) : Type 0 where
   pub elements : List Element
   pub blob_is : IsBlob 12 elements blob
   pub payload_is : IsEqual payload elements
-
-abbrev pub equal_blob_refusal : List ℕ → Option Refusal
-equal_blob_refusal blob = blob_refusal 12 equal_refusal blob
 
 -- the elements in written order
 abbrev pub equal_elements : FindEqual → List Element

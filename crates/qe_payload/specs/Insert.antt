@@ -1,100 +1,90 @@
 -- InsertUpdatePayloadV2 of libmongocrypt: tokens of a value, the sealed value, and for a range the tokens of its edges.
-use Rattle.std.specs.Prelude.{◌≡◌, ℕ, ◌≤◌, true, false, List, [], ◌∷◌, ◌++◌, length, flat_map, codes, bytes_eq, if◌then◌else◌, Option, None, Some}
-use Rattle.qe_document.specs.Names.{Distinct, is_named, value_named}
+use Rattle.std.specs.Prelude.{◌≡◌, ◌≤◌, ℕ, List, [], ◌∷◌, ◌++◌, length, map, true, codes, Option, None, Some, Result, Ok}
+use Rattle.std.specs.List.{AllByRecursion}
 use Rattle.qe_document.specs.Spelling.{document_bytes}
 use Rattle.qe_document.specs.declared.value.Plain.{Plain}
-use Rattle.qe_document.specs.declared.value.Plain.TheVariants.{Array, Binary, Int32, Int64}
+use Rattle.qe_document.specs.declared.value.Plain.TheVariants.{Array, Binary, Doc, Int32, Int64}
+use Rattle.qe_layout.specs.Blobs.{opened, IsBlob}
+use Rattle.qe_layout.specs.Documents.{document_reads, bounded_reads}
+use Rattle.qe_layout.specs.Layouts.{Element, Reader, Row, Rows, needed, optional, rows_of, reads_of, in_slot, built, IsBuilt}
+use Rattle.qe_layout.specs.Refusal.{Refusal, bind, map_read}
 use Rattle.qe_payload.specs.declared.insert.EdgeTokens.{EdgeTokens}
 use Rattle.qe_payload.specs.declared.insert.InsertPayload.{InsertPayload}
-use Rattle.qe_payload.specs.declared.malformed.Kind.TheVariants.{Missing}
-use Rattle.qe_payload.specs.Refusal.{Refusal}
-use Rattle.qe_payload.specs.Shapes.{token, binary, at_least, int32, natural, carried}
-use Rattle.qe_payload.specs.Elements.{Element, Rule, Table, Needs, by_table, document_refusal, HasBinary, HasNatural, HasOnly}
-use Rattle.qe_payload.specs.Arrays.{array_rule, IsList, trees}
-use Rattle.qe_payload.specs.Blobs.{blob_refusal, IsBlob}
+use Rattle.qe_payload.specs.declared.parts.Part.{Part}
+use Rattle.qe_payload.specs.declared.parts.Part.TheVariants.{Edges}
+use Rattle.qe_payload.specs.Carried.{extra_names, extra_table, extra_in, picked_one, picked}
+use Rattle.qe_payload.specs.Parts.{token, cipher, key_id, sealed, whole, number, token_in, cipher_in, key_id_in, sealed_in, whole_in, number_in}
 
 -- an edge: its three tokens, and the ciphered token of rows
-abbrev pub edge_table : Table
-edge_table = (codes "d", token) ∷ (codes "s", token) ∷ (codes "l", token) ∷ (codes "p", binary 0 48) ∷ []
+abbrev pub edge_table : List (Row Part)
+edge_table = needed (codes "d") token ∷ needed (codes "s") token ∷ needed (codes "l") token ∷ needed (codes "p") cipher ∷ []
 
-abbrev pub edge_names : List (List ℕ)
-edge_names = codes "d" ∷ codes "s" ∷ codes "l" ∷ codes "p" ∷ []
+abbrev pub edge_rows : Rows
+edge_rows = rows_of edge_table
 
-abbrev pub edge_needs : Needs
-edge_needs = (codes "d", Missing) ∷ (codes "s", Missing) ∷ (codes "l", Missing) ∷ (codes "p", Missing) ∷ []
+unfoldable pub edge_reads : Reader Part
+edge_reads name value = reads_of edge_table name value
 
-unfoldable pub edge_rule : Rule
-edge_rule name value = by_table edge_table name value
+abbrev pub edge_build : List (Option Part) → EdgeTokens
+edge_build slots =
+    record { d = token_in (in_slot slots 0); s = token_in (in_slot slots 1); l = token_in (in_slot slots 2); p = cipher_in (in_slot slots 3) }
 
-pub record IsEdge (edge : EdgeTokens) (elements : List Element) : Type 0 where
-  pub d : HasBinary elements (codes "d") 0 32 edge.d
-  pub s : HasBinary elements (codes "s") 0 32 edge.s
-  pub l : HasBinary elements (codes "l") 0 32 edge.l
-  pub p : HasBinary elements (codes "p") 0 48 edge.p
-  pub only : HasOnly edge_names elements
-  pub distinct : Distinct elements
+unfoldable pub edge_of : List Element → Result EdgeTokens Refusal
+edge_of elements = built edge_reads edge_rows edge_build elements
+
+unfoldable pub edge_item : Reader EdgeTokens
+edge_item name value = document_reads edge_of name value
+
+-- the greatest number of edges
+abbrev pub most_edges : ℕ
+most_edges = 65
 
 -- an array of 1 to 65 edges
-abbrev pub IsEdgeList : List EdgeTokens → Plain → Type 0
-IsEdgeList edges value = IsList IsEdge true 65 edges value
+abbrev pub edges : Reader Part
+edges name value = map_read (λ g. Edges g) (bounded_reads true most_edges edge_item name value)
 
--- a payload of a range has edges, another has none
-abbrev pub AreOptionalEdges : Option (List EdgeTokens) → Option Plain → Type 0
-AreOptionalEdges None None = Unit {0}
-AreOptionalEdges None (Some value) = ⊥
-AreOptionalEdges (Some edges) None = ⊥
-AreOptionalEdges (Some edges) (Some value) = IsEdgeList edges value
+abbrev pub edges_in : Option Part → Option (List EdgeTokens)
+edges_in (Some (Edges g)) = Some g
+edges_in _ = None
 
--- all elements but the edges
-abbrev pub insert_table : Table
+abbrev pub insert_table : List (Row Part)
 insert_table =
-    (codes "d", token) ∷ (codes "s", token) ∷ (codes "p", binary 0 48) ∷ (codes "u", binary 4 16) ∷ (codes "t", int32)
-    ∷ (codes "v", at_least 0 80) ∷ (codes "e", token) ∷ (codes "l", token) ∷ (codes "k", natural)
-    ∷ (codes "sp", carried) ∷ (codes "pn", carried) ∷ (codes "tf", carried) ∷ (codes "mn", carried) ∷ (codes "mx", carried) ∷ []
+    needed (codes "d") token ∷ needed (codes "s") token ∷ needed (codes "p") cipher ∷ needed (codes "u") key_id ∷ needed (codes "t") whole
+    ∷ needed (codes "v") sealed ∷ needed (codes "e") token ∷ needed (codes "l") token ∷ needed (codes "k") number
+    ∷ optional (codes "g") edges ∷ extra_table
 
--- the names of what is carried unread
-abbrev pub extra_names : List (List ℕ)
-extra_names = codes "sp" ∷ codes "pn" ∷ codes "tf" ∷ codes "mn" ∷ codes "mx" ∷ []
+abbrev pub insert_rows : Rows
+insert_rows = rows_of insert_table
 
-abbrev pub insert_names : List (List ℕ)
-insert_names =
-    codes "g" ∷ codes "d" ∷ codes "s" ∷ codes "p" ∷ codes "u" ∷ codes "t" ∷ codes "v" ∷ codes "e" ∷ codes "l" ∷ codes "k" ∷ extra_names
+unfoldable pub insert_reads : Reader Part
+insert_reads name value = reads_of insert_table name value
 
-abbrev pub insert_needs : Needs
-insert_needs =
-    (codes "d", Missing) ∷ (codes "s", Missing) ∷ (codes "p", Missing) ∷ (codes "u", Missing) ∷ (codes "t", Missing)
-    ∷ (codes "v", Missing) ∷ (codes "e", Missing) ∷ (codes "l", Missing) ∷ (codes "k", Missing) ∷ []
+abbrev pub insert_build : List (Option Part) → InsertPayload
+insert_build slots = record {
+  d = token_in (in_slot slots 0);
+  s = token_in (in_slot slots 1);
+  p = cipher_in (in_slot slots 2);
+  u = key_id_in (in_slot slots 3);
+  t = whole_in (in_slot slots 4);
+  v = sealed_in (in_slot slots 5);
+  e = token_in (in_slot slots 6);
+  l = token_in (in_slot slots 7);
+  k = number_in (in_slot slots 8);
+  g = edges_in (in_slot slots 9);
+  extra = extra_in (in_slot slots 10) (in_slot slots 11) (in_slot slots 12) (in_slot slots 13) (in_slot slots 14);
+}
 
-unfoldable pub insert_rule : Rule
-insert_rule name value = if bytes_eq name (codes "g") then array_rule true 65 edge_rule edge_needs name value else by_table insert_table name value
+-- the payload of a document's elements, or the first refusal
+unfoldable pub insert_of : List Element → Result InsertPayload Refusal
+insert_of elements = built insert_reads insert_rows insert_build elements
 
-unfoldable pub insert_refusal : List Element → Option Refusal
-insert_refusal elements = document_refusal insert_rule insert_needs elements
-
-abbrev pub picked_one : List ℕ → Option Plain → List Element
-picked_one name None = []
-picked_one name (Some value) = (name, value) ∷ []
-
--- the elements of these names, in the order of the names
-abbrev pub picked : List (List ℕ) → List Element → List Element
-picked names elements = flat_map (λ name. picked_one name (value_named name elements)) names
+-- the payload of a blob, whose first byte is 11
+unfoldable pub insert_at : List ℕ → Result InsertPayload Refusal
+insert_at blob = bind (opened 11 blob) insert_of
 
 -- each element once, the optional ones at most once, in any order, and no other
-pub record IsInsert (payload : InsertPayload) (elements : List Element) : Type 0 where
-  pub d : HasBinary elements (codes "d") 0 32 payload.d
-  pub s : HasBinary elements (codes "s") 0 32 payload.s
-  pub p : HasBinary elements (codes "p") 0 48 payload.p
-  pub u : HasBinary elements (codes "u") 4 16 payload.u
-  pub t : value_named (codes "t") elements ≡ Some (Int32 payload.t)
-  pub v : value_named (codes "v") elements ≡ Some (Binary 0 payload.v)
-  pub v_long : 80 ≤ length payload.v
-  pub e : HasBinary elements (codes "e") 0 32 payload.e
-  pub l : HasBinary elements (codes "l") 0 32 payload.l
-  pub k : HasNatural elements (codes "k") payload.k
-  pub g : AreOptionalEdges payload.g (value_named (codes "g") elements)
-  pub extra : payload.extra ≡ picked extra_names elements
-  pub only : HasOnly insert_names elements
-  pub distinct : Distinct elements
+abbrev pub IsInsert : InsertPayload → List Element → Type 0
+IsInsert payload elements = IsBuilt insert_reads insert_rows insert_build payload elements
 
 -- the first byte is 11
 pub record IsInsertBlob (payload : InsertPayload) (blob : List ℕ) : Type 0 where
@@ -102,16 +92,13 @@ pub record IsInsertBlob (payload : InsertPayload) (blob : List ℕ) : Type 0 whe
   pub blob_is : IsBlob 11 elements blob
   pub payload_is : IsInsert payload elements
 
-abbrev pub insert_blob_refusal : List ℕ → Option Refusal
-insert_blob_refusal blob = blob_refusal 11 insert_refusal blob
-
 -- the elements in written order
 abbrev pub edge_elements : EdgeTokens → List Element
 edge_elements edge = (codes "d", Binary 0 edge.d) ∷ (codes "s", Binary 0 edge.s) ∷ (codes "l", Binary 0 edge.l) ∷ (codes "p", Binary 0 edge.p) ∷ []
 
 abbrev pub edges_value : Option (List EdgeTokens) → Option Plain
 edges_value None = None
-edges_value (Some edges) = Some (Array (trees edge_elements edges))
+edges_value (Some edges) = Some (Array (map (λ edge. Doc (edge_elements edge)) edges))
 
 abbrev pub needed_elements : InsertPayload → List Element
 needed_elements payload =
@@ -128,12 +115,7 @@ written_insert payload = 11 ∷ document_bytes (insert_elements payload)
 -- edges, where there are any, are 1 to 65
 abbrev pub FewEdges : Option (List EdgeTokens) → Type 0
 FewEdges None = Unit {0}
-FewEdges (Some edges) = (1 ≤ length edges) × (length edges ≤ 65)
-
--- no element has one of the names
-abbrev pub AreNew : List (List ℕ) → List Element → Type 0
-AreNew [] elements = Unit {0}
-AreNew (name ∷ names) elements = (is_named name elements ≡ false) × AreNew names elements
+FewEdges (Some edges) = (1 ≤ length edges) × (length edges ≤ most_edges)
 
 pub record HasLongParts (payload : InsertPayload) : Type 0 where
   pub d : length payload.d ≡ 32
@@ -142,3 +124,15 @@ pub record HasLongParts (payload : InsertPayload) : Type 0 where
   pub u : length payload.u ≡ 16
   pub e : length payload.e ≡ 32
   pub l : length payload.l ≡ 32
+
+-- an edge's tokens have their lengths
+pub record HasLongTokens (edge : EdgeTokens) : Type 0 where
+  pub d : length edge.d ≡ 32
+  pub s : length edge.s ≡ 32
+  pub l : length edge.l ≡ 32
+  pub p : length edge.p ≡ 48
+
+-- edges, where there are any, are read again as they are written
+abbrev pub AreAgain : Option (List EdgeTokens) → Type 0
+AreAgain None = Unit {0}
+AreAgain (Some edges) = AllByRecursion (λ edge. edge_of (edge_elements edge) ≡ Ok edge) edges

@@ -1,8 +1,6 @@
-pub mod Refusal
-pub mod Shapes
-pub mod Elements
-pub mod Blobs
+pub mod Parts
+pub mod Carried
 pub mod Equal
-pub mod Arrays
 pub mod Insert
 pub mod Range
+pub mod Laws

@@ -1,23 +1,21 @@
 //! Insert payloads: InsertUpdatePayloadV2.
 
-ghost use Rattle.std.specs.Prelude.{◌≡◌, ◌++◌, ◌∷◌, [], codes, false, IfOk, IfErr, OnOk, None};
-ghost use Rattle.qe_document.specs.Names.{Distinct, is_named, value_named};
+ghost use Rattle.std.specs.Prelude.{◌≡◌, IfOk};
 ghost use Rattle.qe_document.specs.Views.{plain};
-ghost use Rattle.qe_payload.specs.Refusal.{Checks};
-ghost use Rattle.qe_payload.specs.Elements.{kind_at};
-ghost use Rattle.qe_payload.specs.Insert.{insert_table, insert_refusal, insert_blob_refusal, extra_names, picked_one, picked, AreNew, AreOptionalEdges, IsInsert, IsInsertBlob};
-ghost use Rattle.qe_payload.specs.declared.insert.InsertPayload.{InsertPayload};
+ghost use Rattle.qe_layout.specs.Refusal.{Reads};
+ghost use Rattle.qe_payload.specs.Insert.{edge_of, edges, edges_in, insert_of, insert_at, IsInsertBlob};
 
-use crate::arrays::{Bounds, check_array};
-use crate::blob::open_blob;
-use crate::entries::{Entry, list_in};
-use crate::held::{array_at, bytes_at, int32_at, natural_at};
-use crate::layout::{Layout, check, need};
-use crate::malformed::{Kind, Malformed, check_here};
-use crate::shape::{at_least, binary, int32, natural, token};
-use crate::written::{bytes_of, put, put_binary};
+use crate::carried::extra_in;
+use crate::parts::{
+    Part, carried, cipher, cipher_in, key_id, key_id_in, number, number_in, sealed, sealed_in,
+    token, token_in, whole, whole_in,
+};
 use qe_base::{Bytes, Duplicate, Listing, NoMemory};
 use qe_document::{Document, Value};
+use qe_layout::{
+    Bounds, Item, Kind, Layout, Malformed, arrange, bounded_items, document, inside, open_blob,
+    refuse,
+};
 use std::alloc::Global;
 
 /// The first byte of an insert payload.
@@ -29,14 +27,21 @@ const MOST_EDGES: usize = 65;
 /// The tokens of an edge of a range.
 #[derive(Clone, Copy, Debug, PartialEq, Eq)]
 pub struct EdgeTokens {
-    /// The edge's token of documents, under the payload's contention factor.
+    /// The edge's token of documents under the payload's contention factor, libmongocrypt's
+    /// EDCDerivedFromDataTokenAndContentionFactor.
     pub d: [u8; 32],
-    /// Its token of rows, under that factor.
+    /// Its token of rows under that factor, ESCDerivedFromDataTokenAndContentionFactor.
     pub s: [u8; 32],
-    /// Its token of blocks.
+    /// Its token of blocks, ServerDerivedFromDataToken.
     pub l: [u8; 32],
-    /// An IV, and `s` in AES-256-CTR under the key of the rows that a compaction reads.
+    /// An IV, and `s` in AES-256-CTR under the ECOCToken, for the rows that a compaction reads.
     pub p: [u8; 48],
+}
+
+impl Duplicate for EdgeTokens {
+    fn copy(&self) -> Result<Self, NoMemory> {
+        Ok(*self)
+    }
 }
 
 /// Edges, shortest first.
@@ -45,11 +50,12 @@ pub type EdgeList = Listing<EdgeTokens>;
 /// What a client sends to insert or to set a value.
 #[derive(Drop)]
 pub struct InsertPayload {
-    /// The value's token of documents, under the contention factor.
+    /// The value's token of documents under the contention factor, libmongocrypt's
+    /// EDCDerivedFromDataTokenAndContentionFactor.
     pub d: [u8; 32],
-    /// Its token of rows, under the contention factor.
+    /// The value's token of rows under the contention factor, ESCDerivedFromDataTokenAndContentionFactor.
     pub s: [u8; 32],
-    /// An IV, and `s` in AES-256-CTR under the key of the rows that a compaction reads.
+    /// An IV, and `s` in AES-256-CTR under the ECOCToken, for the rows that a compaction reads.
     pub p: [u8; 48],
     /// The id of the index key.
     pub u: [u8; 16],
@@ -57,9 +63,9 @@ pub struct InsertPayload {
     pub t: i32,
     /// The id of the user key and the sealed value, at least 80 bytes.
     pub v: Bytes,
-    /// The key of the server-encrypted value.
+    /// The key of the server-encrypted value, ServerDataEncryptionLevel1Token.
     pub e: [u8; 32],
-    /// The value's token of blocks.
+    /// The value's token of blocks, ServerDerivedFromDataToken.
     pub l: [u8; 32],
     /// The contention factor, 0 or more.
     pub k: i64,
@@ -69,213 +75,191 @@ pub struct InsertPayload {
     pub extra: Document,
 }
 
-// The elements of an edge.
-#[derive(Clone, Copy)]
-struct EdgeElements;
-
-impl Layout for EdgeElements {
-    ghost use Rattle.qe_payload.specs.Insert.{edge_rule, edge_needs};
-
-    ghost rule = { λ _. edge_rule };
-
-    ghost needs = { λ _. edge_needs };
-
-    #[tactic(auto, unfolding(crate::specs::Insert::edge_rule))]
-    fn element(&self, alloc: Global, name: &str, value: &Value) -> Result<(), Malformed> {
-        let kind = match name {
-            "d" | "s" | "l" => token(value),
-            "p" => binary(value, 0, 48),
-            _ => Some(Kind::Unknown),
+impl Duplicate for InsertPayload {
+    fn copy(&self) -> Result<Self, NoMemory> {
+        let g = match &self.g {
+            Some(edges) => Some(edges.copy()?),
+            None => None,
         };
-        check_here(alloc, name, kind)
-    }
-
-    fn missing(&self, alloc: Global, document: &Document) -> Result<(), Malformed> {
-        need(alloc, document, "d", Kind::Missing)?;
-        need(alloc, document, "s", Kind::Missing)?;
-        need(alloc, document, "l", Kind::Missing)?;
-        let done = need(alloc, document, "p", Kind::Missing)?;
-        Ok(done)
-    }
-}
-
-impl Entry for EdgeTokens {
-    ghost use Rattle.std.specs.Prelude.{true};
-    ghost use Rattle.qe_payload.specs.Insert.{edge_rule, edge_needs, edge_elements, IsEdge};
-
-    ghost rule = { edge_rule };
-
-    ghost needs = { edge_needs };
-
-    ghost laid = { IsEdge };
-
-    ghost elements = { edge_elements };
-
-    ghost some = { true };
-
-    ghost most = { 65 };
-
-    fn read(document: &Document) -> Self {
-        // The length is asked for since its clause says that the names are distinct.
-        let _count = document.len();
-        EdgeTokens {
-            d: array_at(document, "d", 0),
-            s: array_at(document, "s", 0),
-            l: array_at(document, "l", 0),
-            p: array_at(document, "p", 0),
-        }
-    }
-
-    fn write(&self, alloc: Global) -> Result<Document, NoMemory> {
-        let mut document = Document::new(alloc);
-        put_binary(alloc, &mut document, "d", 0, bytes_of(&self.d))?;
-        put_binary(alloc, &mut document, "s", 0, bytes_of(&self.s))?;
-        put_binary(alloc, &mut document, "l", 0, bytes_of(&self.l))?;
-        put_binary(alloc, &mut document, "p", 0, bytes_of(&self.p))?;
-        Ok(document)
+        Ok(InsertPayload {
+            d: self.d,
+            s: self.s,
+            p: self.p,
+            u: self.u,
+            t: self.t,
+            v: self.v.copy()?,
+            e: self.e,
+            l: self.l,
+            k: self.k,
+            g,
+            extra: self.extra.copy()?,
+        })
     }
 }
 
-// The elements of the payload.
+// The layout of an edge.
 #[derive(Clone, Copy)]
-struct InsertElements;
+struct EdgeLayout;
 
-impl Layout for InsertElements {
-    ghost use Rattle.qe_payload.specs.Insert.{insert_rule, insert_needs};
+impl Layout for EdgeLayout {
+    ghost use Rattle.qe_payload.specs.Insert.{edge_reads, edge_rows};
 
-    ghost rule = { λ _. insert_rule };
+    type Part = Part;
 
-    ghost needs = { λ _. insert_needs };
+    ghost reads = { λ _. edge_reads };
 
-    #[tactic(auto, unfolding(crate::specs::Insert::insert_rule))]
-    fn element(&self, alloc: Global, name: &str, value: &Value) -> Result<(), Malformed> {
-        if name == "g" {
-            let bounds = Bounds {
-                some: true,
-                most: MOST_EDGES,
-            };
-            return check_array(alloc, &EdgeElements, bounds, name, value);
+    ghost rows = { λ _. edge_rows };
+
+    #[tactic(auto, unfolding(crate::specs::Insert::edge_reads))]
+    fn read(&self, alloc: Global, name: &str, value: Value) -> Result<Part, Malformed> {
+        match name {
+            "d" | "s" | "l" => token(alloc, name, value),
+            "p" => cipher(alloc, name, value),
+            _ => refuse(alloc, name, Kind::Unknown),
         }
-        check_here(alloc, name, kind_of(name, value))
     }
 
-    fn missing(&self, alloc: Global, document: &Document) -> Result<(), Malformed> {
-        need(alloc, document, "d", Kind::Missing)?;
-        need(alloc, document, "s", Kind::Missing)?;
-        need(alloc, document, "p", Kind::Missing)?;
-        need(alloc, document, "u", Kind::Missing)?;
-        need(alloc, document, "t", Kind::Missing)?;
-        need(alloc, document, "v", Kind::Missing)?;
-        need(alloc, document, "e", Kind::Missing)?;
-        need(alloc, document, "l", Kind::Missing)?;
-        let done = need(alloc, document, "k", Kind::Missing)?;
-        Ok(done)
+    fn count(&self) -> usize {
+        4
     }
-}
 
-// What is wrong with an element other than the edges.
-fn kind_of(name: &str, value: &Value) -> Option<Kind>
-    ensures { result ≡ kind_at (value_named name.now insert_table) (plain value.now) }
-{
-    match name {
-        "d" | "s" | "e" | "l" => token(value),
-        "p" => binary(value, 0, 48),
-        "u" => binary(value, 4, 16),
-        "t" => int32(value),
-        "v" => at_least(value, 0, 80),
-        "k" => natural(value),
-        "sp" | "pn" | "tf" | "mn" | "mx" => None,
-        _ => Some(Kind::Unknown),
-    }
-}
-
-/// Refuses what is wrong with an insert payload's document.
-#[tactic(auto, unfolding(crate::specs::Insert::insert_refusal))]
-pub fn check_insert(alloc: Global, document: &Document) -> Result<(), Malformed>
-    ensures distinct { OnOk result (Distinct document.now) }
-    ensures first { Checks result (insert_refusal document.now) }
-{
-    check(alloc, &InsertElements, document)
-}
-
-fn carry(
-    alloc: Global,
-    document: &Document,
-    name: &str,
-    extra: &mut Document,
-) -> Result<(), NoMemory>
-    requires { is_named name.now extra.old ≡ false }
-    ensures { OnOk result (extra.new ≡ extra.old ++ picked_one name.now (value_named name.now document.now)) }
-{
-    match document.get(name) {
-        Some(value) => {
-            let copied = value.copy()?;
-            put(alloc, extra, name, copied)
-        }
-        None => Ok(()),
-    }
-}
-
-/// Adds what stands under the names that are carried unread, in their order.
-#[tactic(auto, using(crate::proofs::PickedLemmas::carried_new))]
-pub(crate) fn carry_all(
-    alloc: Global,
-    document: &Document,
-    extra: &mut Document,
-) -> Result<(), NoMemory>
-    requires { AreNew extra_names extra.old }
-    ensures { OnOk result (extra.new ≡ extra.old ++ picked extra_names document.now) }
-{
-    carry(alloc, document, "sp", extra)?;
-    carry(alloc, document, "pn", extra)?;
-    carry(alloc, document, "tf", extra)?;
-    carry(alloc, document, "mn", extra)?;
-    let done = carry(alloc, document, "mx", extra)?;
-    Ok(done)
-}
-
-/// What stands under the names that are carried unread, in their order.
-pub(crate) fn extra_of(alloc: Global, document: &Document) -> Result<Document, NoMemory>
-    ensures { IfOk result (λ extra. extra ≡ picked extra_names document.now) }
-{
-    let mut extra = Document::new(alloc);
-    carry_all(alloc, document, &mut extra)?;
-    Ok(extra)
-}
-
-fn edges_at(alloc: Global, document: &Document) -> Result<Option<EdgeList>, NoMemory>
-    requires { insert_refusal document.now ≡ None }
-    ensures { IfOk result (λ edges. AreOptionalEdges edges (value_named (codes "g") document.now)) }
-{
-    match document.get("g") {
-        None => Ok(None),
-        Some(value) => {
-            let edges = list_in(alloc, value)?;
-            Ok(Some(edges))
+    fn row(&self, place: usize) -> (&str, Option<Kind>) {
+        match place {
+            0 => ("d", Some(Kind::Missing)),
+            1 => ("s", Some(Kind::Missing)),
+            2 => ("l", Some(Kind::Missing)),
+            _ => ("p", Some(Kind::Missing)),
         }
     }
 }
 
-fn insert_of(alloc: Global, document: &Document) -> Result<InsertPayload, NoMemory>
-    requires distinct { Distinct document.now }
-    requires passes { insert_refusal document.now ≡ None }
-    ensures { IfOk result (λ payload. IsInsert payload document.now) }
+#[tactic(auto, unfolding(crate::specs::Insert::edge_of))]
+fn read_edge(alloc: Global, document: Document) -> Result<EdgeTokens, Malformed>
+    ensures { Reads result (edge_of document) }
 {
-    let v = bytes_at(alloc, document, "v", 0, 80)?;
-    let g = edges_at(alloc, document)?;
-    let extra = extra_of(alloc, document)?;
+    let mut slots = arrange(alloc, &EdgeLayout, document)?;
+    Ok(EdgeTokens {
+        d: token_in(slots.take(0)),
+        s: token_in(slots.take(1)),
+        l: token_in(slots.take(2)),
+        p: cipher_in(slots.take(3)),
+    })
+}
+
+// An edge in an array.
+#[derive(Clone, Copy)]
+struct EdgeItem;
+
+impl Item for EdgeItem {
+    ghost use Rattle.qe_payload.specs.Insert.{edge_item};
+
+    type Out = EdgeTokens;
+
+    ghost reads = { λ _. edge_item };
+
+    #[tactic(auto, unfolding(crate::specs::Insert::edge_item))]
+    fn item(&self, alloc: Global, index: &str, value: Value) -> Result<EdgeTokens, Malformed> {
+        let edge = document(alloc, index, value)?;
+        inside(alloc, index, read_edge(alloc, edge))
+    }
+}
+
+fn edges(alloc: Global, name: &str, value: Value) -> Result<Part, Malformed>
+    ensures { Reads result (edges name.now (plain value)) }
+{
+    let bounds = Bounds {
+        some: true,
+        most: MOST_EDGES,
+    };
+    Ok(Part::Edges(bounded_items(alloc, &EdgeItem, bounds, name, value)?))
+}
+
+fn edges_in(slot: Option<Part>) -> Option<EdgeList>
+    ensures { result ≡ edges_in slot }
+{
+    match slot {
+        Some(Part::Edges(edges)) => Some(edges),
+        _ => None,
+    }
+}
+
+// The layout of the payload's document.
+#[derive(Clone, Copy)]
+struct InsertLayout;
+
+impl Layout for InsertLayout {
+    ghost use Rattle.qe_payload.specs.Insert.{insert_reads, insert_rows};
+
+    type Part = Part;
+
+    ghost reads = { λ _. insert_reads };
+
+    ghost rows = { λ _. insert_rows };
+
+    #[tactic(auto, unfolding(crate::specs::Insert::insert_reads))]
+    fn read(&self, alloc: Global, name: &str, value: Value) -> Result<Part, Malformed> {
+        match name {
+            "d" | "s" | "e" | "l" => token(alloc, name, value),
+            "p" => cipher(alloc, name, value),
+            "u" => key_id(alloc, name, value),
+            "t" => whole(alloc, name, value),
+            "v" => sealed(alloc, name, value),
+            "k" => number(alloc, name, value),
+            "g" => edges(alloc, name, value),
+            "sp" | "pn" | "tf" | "mn" | "mx" => carried(name, value),
+            _ => refuse(alloc, name, Kind::Unknown),
+        }
+    }
+
+    fn count(&self) -> usize {
+        15
+    }
+
+    fn row(&self, place: usize) -> (&str, Option<Kind>) {
+        match place {
+            0 => ("d", Some(Kind::Missing)),
+            1 => ("s", Some(Kind::Missing)),
+            2 => ("p", Some(Kind::Missing)),
+            3 => ("u", Some(Kind::Missing)),
+            4 => ("t", Some(Kind::Missing)),
+            5 => ("v", Some(Kind::Missing)),
+            6 => ("e", Some(Kind::Missing)),
+            7 => ("l", Some(Kind::Missing)),
+            8 => ("k", Some(Kind::Missing)),
+            9 => ("g", None),
+            10 => ("sp", None),
+            11 => ("pn", None),
+            12 => ("tf", None),
+            13 => ("mn", None),
+            _ => ("mx", None),
+        }
+    }
+}
+
+#[tactic(auto, unfolding(crate::specs::Insert::insert_of))]
+fn read_document(alloc: Global, document: Document) -> Result<InsertPayload, Malformed>
+    ensures { Reads result (insert_of document) }
+{
+    let mut slots = arrange(alloc, &InsertLayout, document)?;
     Ok(InsertPayload {
-        d: array_at(document, "d", 0),
-        s: array_at(document, "s", 0),
-        p: array_at(document, "p", 0),
-        u: array_at(document, "u", 4),
-        t: int32_at(document, "t"),
-        v,
-        e: array_at(document, "e", 0),
-        l: array_at(document, "l", 0),
-        k: natural_at(document, "k"),
-        g,
-        extra,
+        d: token_in(slots.take(0)),
+        s: token_in(slots.take(1)),
+        p: cipher_in(slots.take(2)),
+        u: key_id_in(slots.take(3)),
+        t: whole_in(slots.take(4)),
+        v: sealed_in(alloc, slots.take(5)),
+        e: token_in(slots.take(6)),
+        l: token_in(slots.take(7)),
+        k: number_in(slots.take(8)),
+        g: edges_in(slots.take(9)),
+        extra: extra_in(
+            alloc,
+            slots.take(10),
+            slots.take(11),
+            slots.take(12),
+            slots.take(13),
+            slots.take(14),
+        )?,
     })
 }
 
@@ -284,14 +268,11 @@ fn insert_of(alloc: Global, document: &Document) -> Result<InsertPayload, NoMemo
 /// The blob is the byte 11 and a BSON document, in any order, of `d`, `s`, `e` and `l` (binaries of 32 bytes and
 /// subtype 0), `p` (48 bytes), `u` (16 bytes of subtype 4), the int32 `t`, `v` (80 bytes or more), the int64 `k`, for
 /// a range `g` (an array of 1 to 65 documents of `d`, `s`, `l` and `p`), and the optional `sp`, `pn`, `tf`, `mn`, `mx`.
+#[tactic(auto, unfolding(crate::specs::Insert::insert_at))]
 pub fn read_insert(alloc: Global, blob: &[u8]) -> Result<InsertPayload, Malformed>
     ensures found { IfOk result (λ payload. IsInsertBlob payload blob.now) }
-    ensures only { (payload : InsertPayload) → IsInsertBlob payload blob.now → IfErr result (λ e. e ≡ Malformed.NoMemory) }
-    ensures same { (payload : InsertPayload) → IsInsertBlob payload blob.now → IfOk result (λ read. read ≡ payload) }
-    ensures first { Checks result (insert_blob_refusal blob.now) }
+    ensures exact { Reads result (insert_at blob.now) }
 {
     let document = open_blob(alloc, FIRST, blob)?;
-    check_insert(alloc, &document)?;
-    let payload = insert_of(alloc, &document)?;
-    Ok(payload)
+    read_document(alloc, document)
 }

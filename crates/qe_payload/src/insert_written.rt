@@ -2,14 +2,17 @@
 
 ghost use Rattle.std.specs.Prelude.{◌≡◌, ◌≤◌, ◌≤ℤ◌, ◌++◌, pos, codes, length, false, IfOk, IfErr, OnOk};
 ghost use Rattle.qe_document.specs.Names.{is_named};
+ghost use Rattle.qe_document.specs.Spelling.{IsDocument};
 ghost use Rattle.qe_document.specs.Writing.{IsWhyRefused};
-ghost use Rattle.qe_payload.specs.Insert.{edges_value, needed_elements, insert_elements, written_insert, extra_names, picked_one, picked};
-ghost use Rattle.qe_payload.specs.Insert.{FewEdges, HasLongParts, AreOptionalEdges, IsInsert, IsInsertBlob};
+ghost use Rattle.qe_payload.specs.Carried.{extra_names, picked_one, picked};
+ghost use Rattle.qe_payload.specs.Insert.{edge_elements, edges_value, needed_elements, insert_elements, written_insert, FewEdges, AreAgain, HasLongParts, HasLongTokens, IsInsert, IsInsertBlob};
 
-use crate::entries::array_of;
-use crate::insert::{EdgeList, FIRST, InsertPayload, carry_all};
-use crate::written::{blob_of, bytes_of, put, put_binary};
-use qe_base::{Bytes, NoMemory};
+use crate::carried::carry_all;
+use crate::entries::{Entry, array_of};
+use crate::insert::{EdgeList, EdgeTokens, FIRST, InsertPayload};
+use crate::parts::{GENERIC, UUID};
+use crate::written::{blob_of, put, put_binary};
+use qe_base::{Bytes, NoMemory, bytes_of};
 use qe_document::{Document, EncodeFault, Value};
 use std::alloc::Global;
 
@@ -25,6 +28,7 @@ pub fn write_insert(alloc: Global, payload: &InsertPayload) -> Result<Bytes, Enc
     requires extra { payload.now.extra ≡ picked extra_names payload.now.extra }
     ensures written { IfOk result (λ blob. blob ≡ written_insert payload.now) }
     ensures again { IfOk result (λ blob. IsInsertBlob payload.now blob) }
+    ensures fits { IfOk result (λ _. IsDocument (insert_elements payload.now)) }
     ensures err { IfErr result (IsWhyRefused (insert_elements payload.now)) }
 {
     match document_of(alloc, payload) {
@@ -52,14 +56,14 @@ fn needed_of(alloc: Global, payload: &InsertPayload) -> Result<Document, NoMemor
     ensures long { IfOk result (λ _. HasLongParts payload.now) }
 {
     let mut document = Document::new(alloc);
-    put_binary(alloc, &mut document, "d", 0, bytes_of(&payload.d))?;
-    put_binary(alloc, &mut document, "s", 0, bytes_of(&payload.s))?;
-    put_binary(alloc, &mut document, "p", 0, bytes_of(&payload.p))?;
-    put_binary(alloc, &mut document, "u", 4, bytes_of(&payload.u))?;
+    put_binary(alloc, &mut document, "d", GENERIC, bytes_of(&payload.d))?;
+    put_binary(alloc, &mut document, "s", GENERIC, bytes_of(&payload.s))?;
+    put_binary(alloc, &mut document, "p", GENERIC, bytes_of(&payload.p))?;
+    put_binary(alloc, &mut document, "u", UUID, bytes_of(&payload.u))?;
     put(alloc, &mut document, "t", Value::Int32(payload.t))?;
-    put_binary(alloc, &mut document, "v", 0, payload.v.slice())?;
-    put_binary(alloc, &mut document, "e", 0, bytes_of(&payload.e))?;
-    put_binary(alloc, &mut document, "l", 0, bytes_of(&payload.l))?;
+    put_binary(alloc, &mut document, "v", GENERIC, payload.v.slice())?;
+    put_binary(alloc, &mut document, "e", GENERIC, bytes_of(&payload.e))?;
+    put_binary(alloc, &mut document, "l", GENERIC, bytes_of(&payload.l))?;
     put(alloc, &mut document, "k", Value::Int64(payload.k))?;
     Ok(document)
 }
@@ -70,9 +74,8 @@ fn put_edges(
     edges: &Option<EdgeList>,
 ) -> Result<(), NoMemory>
     requires new { is_named (codes "g") document.old ≡ false }
-    requires few { FewEdges edges.now }
     ensures elements { OnOk result (document.new ≡ document.old ++ picked_one (codes "g") (edges_value edges.now)) }
-    ensures is { OnOk result (AreOptionalEdges edges.now (edges_value edges.now)) }
+    ensures again { OnOk result (AreAgain edges.now) }
 {
     match edges {
         None => Ok(()),
@@ -81,4 +84,29 @@ fn put_edges(
             put(alloc, document, "g", array)
         }
     }
+}
+
+impl Entry for EdgeTokens {
+    ghost use Rattle.std.specs.Prelude.{◌≡◌, Ok};
+    ghost use Rattle.qe_payload.specs.Insert.{edge_of, edge_elements};
+
+    ghost elements = { edge_elements };
+
+    ghost again = { λ edge. edge_of (edge_elements edge) ≡ Ok edge };
+
+    fn write(&self, alloc: Global) -> Result<Document, NoMemory> {
+        edge_document(alloc, self)
+    }
+}
+
+fn edge_document(alloc: Global, edge: &EdgeTokens) -> Result<Document, NoMemory>
+    ensures elements { IfOk result (λ document. document ≡ edge_elements edge.now) }
+    ensures long { IfOk result (λ _. HasLongTokens edge.now) }
+{
+    let mut document = Document::new(alloc);
+    put_binary(alloc, &mut document, "d", GENERIC, bytes_of(&edge.d))?;
+    put_binary(alloc, &mut document, "s", GENERIC, bytes_of(&edge.s))?;
+    put_binary(alloc, &mut document, "l", GENERIC, bytes_of(&edge.l))?;
+    put_binary(alloc, &mut document, "p", GENERIC, bytes_of(&edge.p))?;
+    Ok(document)
 }

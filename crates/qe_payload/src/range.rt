@@ -1,33 +1,25 @@
 //! Find payloads of ranges: FindRangePayloadV2.
 
-ghost use Rattle.std.specs.Prelude.{◌≡◌, codes, IfOk, IfErr, OnOk, None, Some, false};
-ghost use Rattle.qe_document.specs.Names.{Distinct, value_named};
+ghost use Rattle.std.specs.Prelude.{◌≡◌, IfOk};
 ghost use Rattle.qe_document.specs.Views.{plain};
-ghost use Rattle.qe_payload.specs.Refusal.{Checks};
-ghost use Rattle.qe_payload.specs.Arrays.{array_rule};
-ghost use Rattle.qe_payload.specs.Range as ranges;
-ghost use Rattle.qe_payload.specs.Range.{find_edge_rule, find_edge_needs};
-ghost use Rattle.qe_payload.specs.Range.{inner_refusal, HasDocument, range_refusal, range_blob_refusal, IsInner, IsRange, IsRangeBlob};
-ghost use Rattle.qe_payload.specs.declared.range.FindRange.{FindRange};
+ghost use Rattle.qe_layout.specs.Refusal.{Reads};
+ghost use Rattle.qe_payload.specs.Range.{find_edge_of, find_edges, find_edges_in, inner_of, inner, inner_in, range_of, range_at, IsRangeBlob};
 
-use crate::arrays::{Bounds, check_array, check_document};
-use crate::blob::open_blob;
-use crate::entries::{Entry, list_in};
-use crate::held::{array_at, int32_at, natural_at};
-use crate::insert::extra_of;
-use crate::layout::{Layout, check, need};
-use crate::malformed::{Kind, Malformed, check_here};
-use crate::shape::{int32, natural, token};
-use crate::written::{bytes_of, put_binary};
-use qe_base::{Listing, NoMemory};
+use crate::carried::extra_in;
+use crate::parts::{Part, carried, number, number_in, operator, token, token_in, whole, whole_in};
+use qe_base::{Duplicate, Listing, NoMemory};
 use qe_document::{Document, Value};
+use qe_layout::{
+    Bounds, Item, Kind, Layout, Malformed, arrange, bounded_items, document, inside, open_blob,
+    refuse,
+};
 use std::alloc::Global;
 
 /// The first byte of a find payload of a range.
 pub(crate) const FIRST: u8 = 13;
 
 /// The greatest number of edges.
-const MOST_EDGES: usize = 4096;
+const MOST_FIND_EDGES: usize = 4096;
 
 /// The operator of the lower bound.
 pub(crate) const FIRST_OPERATOR: i32 = 2;
@@ -38,12 +30,18 @@ pub(crate) const SECOND_OPERATOR: i32 = 4;
 /// The tokens of an edge that is looked for.
 #[derive(Clone, Copy, Debug, PartialEq, Eq)]
 pub struct FindEdge {
-    /// The edge's token of documents.
+    /// The edge's token of documents, libmongocrypt's EDCDerivedFromDataToken.
     pub d: [u8; 32],
-    /// Its token of rows.
+    /// Its token of rows, ESCDerivedFromDataToken.
     pub s: [u8; 32],
-    /// Its token of blocks.
+    /// Its token of blocks, ServerDerivedFromDataToken.
     pub l: [u8; 32],
+}
+
+impl Duplicate for FindEdge {
+    fn copy(&self) -> Result<Self, NoMemory> {
+        Ok(*self)
+    }
 }
 
 /// Edges in the order in which they are looked for.
@@ -62,204 +60,233 @@ pub struct FindRange {
     pub extra: Document,
 }
 
-// An int32 that is the operator of its place.
-fn operator(value: &Value, wanted: i32) -> Option<Kind>
-    ensures { result ≡ ranges.operator wanted (plain value.now) }
-{
-    match value {
-        Value::Int32(number) => {
-            if *number == wanted {
-                None
-            } else {
-                Some(Kind::ProfileOperator)
-            }
-        }
-        _ => Some(Kind::WrongType),
+impl Duplicate for FindRange {
+    fn copy(&self) -> Result<Self, NoMemory> {
+        Ok(FindRange {
+            g: self.g.copy()?,
+            cm: self.cm,
+            payload_id: self.payload_id,
+            extra: self.extra.copy()?,
+        })
     }
 }
 
-// The elements of an edge.
+// What the inner document holds.
+#[derive(Drop)]
+pub(crate) struct Inner {
+    pub(crate) g: FindEdges,
+    pub(crate) cm: i64,
+}
+
+// The layout of an edge.
 #[derive(Clone, Copy)]
-struct FindEdgeElements;
+struct FindEdgeLayout;
 
-impl Layout for FindEdgeElements {
-    ghost use Rattle.qe_payload.specs.Range.{find_edge_rule, find_edge_needs};
+impl Layout for FindEdgeLayout {
+    ghost use Rattle.qe_payload.specs.Range.{find_edge_reads, find_edge_rows};
 
-    ghost rule = { λ _. find_edge_rule };
+    type Part = Part;
 
-    ghost needs = { λ _. find_edge_needs };
+    ghost reads = { λ _. find_edge_reads };
 
-    #[tactic(auto, unfolding(crate::specs::Range::find_edge_rule))]
-    fn element(&self, alloc: Global, name: &str, value: &Value) -> Result<(), Malformed> {
-        let kind = match name {
-            "d" | "s" | "l" => token(value),
-            _ => Some(Kind::Unknown),
-        };
-        check_here(alloc, name, kind)
-    }
+    ghost rows = { λ _. find_edge_rows };
 
-    fn missing(&self, alloc: Global, document: &Document) -> Result<(), Malformed> {
-        need(alloc, document, "d", Kind::Missing)?;
-        need(alloc, document, "s", Kind::Missing)?;
-        let done = need(alloc, document, "l", Kind::Missing)?;
-        Ok(done)
-    }
-}
-
-impl Entry for FindEdge {
-    ghost use Rattle.std.specs.Prelude.{false};
-    ghost use Rattle.qe_payload.specs.Range.{find_edge_rule, find_edge_needs, find_edge_elements, IsFindEdge};
-
-    ghost rule = { find_edge_rule };
-
-    ghost needs = { find_edge_needs };
-
-    ghost laid = { IsFindEdge };
-
-    ghost elements = { find_edge_elements };
-
-    ghost some = { false };
-
-    ghost most = { 4096 };
-
-    fn read(document: &Document) -> Self {
-        // The length is asked for since its clause says that the names are distinct.
-        let _count = document.len();
-        FindEdge {
-            d: array_at(document, "d", 0),
-            s: array_at(document, "s", 0),
-            l: array_at(document, "l", 0),
+    #[tactic(auto, unfolding(crate::specs::Range::find_edge_reads))]
+    fn read(&self, alloc: Global, name: &str, value: Value) -> Result<Part, Malformed> {
+        match name {
+            "d" | "s" | "l" => token(alloc, name, value),
+            _ => refuse(alloc, name, Kind::Unknown),
         }
     }
 
-    fn write(&self, alloc: Global) -> Result<Document, NoMemory> {
-        let mut document = Document::new(alloc);
-        put_binary(alloc, &mut document, "d", 0, bytes_of(&self.d))?;
-        put_binary(alloc, &mut document, "s", 0, bytes_of(&self.s))?;
-        put_binary(alloc, &mut document, "l", 0, bytes_of(&self.l))?;
-        Ok(document)
+    fn count(&self) -> usize {
+        3
+    }
+
+    fn row(&self, place: usize) -> (&str, Option<Kind>) {
+        match place {
+            0 => ("d", Some(Kind::Missing)),
+            1 => ("s", Some(Kind::Missing)),
+            _ => ("l", Some(Kind::Missing)),
+        }
     }
 }
 
-// The elements of the inner document.
+#[tactic(auto, unfolding(crate::specs::Range::find_edge_of))]
+fn read_edge(alloc: Global, document: Document) -> Result<FindEdge, Malformed>
+    ensures { Reads result (find_edge_of document) }
+{
+    let mut slots = arrange(alloc, &FindEdgeLayout, document)?;
+    Ok(FindEdge {
+        d: token_in(slots.take(0)),
+        s: token_in(slots.take(1)),
+        l: token_in(slots.take(2)),
+    })
+}
+
+// An edge in an array.
 #[derive(Clone, Copy)]
-struct InnerElements;
+struct FindEdgeItem;
 
-impl Layout for InnerElements {
-    ghost use Rattle.qe_payload.specs.Range.{inner_rule, inner_needs};
+impl Item for FindEdgeItem {
+    ghost use Rattle.qe_payload.specs.Range.{find_edge_item};
 
-    ghost rule = { λ _. inner_rule };
+    type Out = FindEdge;
 
-    ghost needs = { λ _. inner_needs };
+    ghost reads = { λ _. find_edge_item };
 
-    #[tactic(auto, unfolding(crate::specs::Range::inner_rule))]
-    fn element(&self, alloc: Global, name: &str, value: &Value) -> Result<(), Malformed> {
-        if name == "g" {
-            let bounds = Bounds {
-                some: false,
-                most: MOST_EDGES,
-            };
-            return check_array(alloc, &FindEdgeElements, bounds, name, value);
-        }
-        let kind = match name {
-            "cm" => natural(value),
-            _ => Some(Kind::Unknown),
-        };
-        check_here(alloc, name, kind)
-    }
-
-    fn missing(&self, alloc: Global, document: &Document) -> Result<(), Malformed> {
-        need(alloc, document, "g", Kind::Missing)?;
-        let done = need(alloc, document, "cm", Kind::Missing)?;
-        Ok(done)
+    #[tactic(auto, unfolding(crate::specs::Range::find_edge_item))]
+    fn item(&self, alloc: Global, index: &str, value: Value) -> Result<FindEdge, Malformed> {
+        let edge = document(alloc, index, value)?;
+        inside(alloc, index, read_edge(alloc, edge))
     }
 }
 
-// The elements of the payload.
+fn find_edges(alloc: Global, name: &str, value: Value) -> Result<Part, Malformed>
+    ensures { Reads result (find_edges name.now (plain value)) }
+{
+    let bounds = Bounds {
+        some: false,
+        most: MOST_FIND_EDGES,
+    };
+    Ok(Part::FindEdges(bounded_items(alloc, &FindEdgeItem, bounds, name, value)?))
+}
+
+fn find_edges_in(alloc: Global, slot: Option<Part>) -> FindEdges
+    ensures { result ≡ find_edges_in slot }
+{
+    match slot {
+        Some(Part::FindEdges(edges)) => edges,
+        _ => FindEdges::new(alloc),
+    }
+}
+
+// The layout of the inner document.
 #[derive(Clone, Copy)]
-struct RangeElements;
+struct InnerLayout;
 
-impl Layout for RangeElements {
-    ghost use Rattle.qe_payload.specs.Range.{range_rule, range_needs};
+impl Layout for InnerLayout {
+    ghost use Rattle.qe_payload.specs.Range.{inner_reads, inner_rows};
 
-    ghost rule = { λ _. range_rule };
+    type Part = Part;
 
-    ghost needs = { λ _. range_needs };
+    ghost reads = { λ _. inner_reads };
 
-    #[tactic(auto, unfolding(crate::specs::Range::range_rule))]
-    fn element(&self, alloc: Global, name: &str, value: &Value) -> Result<(), Malformed> {
-        if name == "payload" {
-            return check_document(alloc, &InnerElements, name, value);
+    ghost rows = { λ _. inner_rows };
+
+    #[tactic(auto, unfolding(crate::specs::Range::inner_reads))]
+    fn read(&self, alloc: Global, name: &str, value: Value) -> Result<Part, Malformed> {
+        match name {
+            "g" => find_edges(alloc, name, value),
+            "cm" => number(alloc, name, value),
+            _ => refuse(alloc, name, Kind::Unknown),
         }
-        let kind = match name {
-            "payloadId" => int32(value),
-            "firstOperator" => operator(value, FIRST_OPERATOR),
-            "secondOperator" => operator(value, SECOND_OPERATOR),
-            "sp" | "pn" | "tf" | "mn" | "mx" => None,
-            _ => Some(Kind::Unknown),
-        };
-        check_here(alloc, name, kind)
     }
 
-    fn missing(&self, alloc: Global, document: &Document) -> Result<(), Malformed> {
-        need(alloc, document, "payload", Kind::Missing)?;
-        need(alloc, document, "payloadId", Kind::Missing)?;
-        need(alloc, document, "firstOperator", Kind::Missing)?;
-        let done = need(alloc, document, "secondOperator", Kind::ProfileOperator)?;
-        Ok(done)
+    fn count(&self) -> usize {
+        2
+    }
+
+    fn row(&self, place: usize) -> (&str, Option<Kind>) {
+        match place {
+            0 => ("g", Some(Kind::Missing)),
+            _ => ("cm", Some(Kind::Missing)),
+        }
     }
 }
 
-#[tactic(auto, unfolding(crate::specs::Range::range_refusal))]
-fn check_range(alloc: Global, document: &Document) -> Result<(), Malformed>
-    ensures distinct { OnOk result (Distinct document.now) }
-    ensures first { Checks result (range_refusal document.now) }
+#[tactic(auto, unfolding(crate::specs::Range::inner_of))]
+fn read_inner(alloc: Global, document: Document) -> Result<Inner, Malformed>
+    ensures { Reads result (inner_of document) }
 {
-    check(alloc, &RangeElements, document)
+    let mut slots = arrange(alloc, &InnerLayout, document)?;
+    Ok(Inner {
+        g: find_edges_in(alloc, slots.take(0)),
+        cm: number_in(slots.take(1)),
+    })
 }
 
-// The value of the edges, which is there.
-fn list_at(document: &Document) -> &Value
-    requires { inner_refusal document.now ≡ None }
-    ensures found { value_named (codes "g") document.now ≡ Some (plain result.now) }
-    ensures passes { array_rule false 4096 find_edge_rule find_edge_needs (codes "g") (plain result.now) ≡ None }
+fn inner_part(alloc: Global, name: &str, value: Value) -> Result<Part, Malformed>
+    ensures { Reads result (inner name.now (plain value)) }
 {
-    match document.get("g") {
-        Some(value) => value,
-        None => unreachable!(),
-    }
+    let elements = document(alloc, name, value)?;
+    Ok(Part::Inner(inside(alloc, name, read_inner(alloc, elements))?))
 }
 
-// The inner document, which is there.
-fn inner_at(document: &Document) -> &Document
-    requires { range_refusal document.now ≡ None }
-    ensures found { HasDocument document.now (codes "payload") result.now }
-    ensures passes { inner_refusal result.now ≡ None }
+fn inner_in(alloc: Global, slot: Option<Part>) -> Inner
+    ensures { result ≡ inner_in slot }
 {
-    match document.get("payload") {
-        Some(value) => match value.as_document() {
-            Some(inner) => inner,
-            None => unreachable!(),
+    match slot {
+        Some(Part::Inner(inner)) => inner,
+        _ => Inner {
+            g: FindEdges::new(alloc),
+            cm: 0,
         },
-        None => unreachable!(),
     }
 }
 
-fn range_of(alloc: Global, document: &Document) -> Result<FindRange, NoMemory>
-    requires distinct { Distinct document.now }
-    requires passes { range_refusal document.now ≡ None }
-    ensures { IfOk result (λ payload. IsRange payload document.now) }
+// The layout of the payload's document.
+#[derive(Clone, Copy)]
+struct RangeLayout;
+
+impl Layout for RangeLayout {
+    ghost use Rattle.qe_payload.specs.Range.{range_reads, range_rows};
+
+    type Part = Part;
+
+    ghost reads = { λ _. range_reads };
+
+    ghost rows = { λ _. range_rows };
+
+    #[tactic(auto, unfolding(crate::specs::Range::range_reads))]
+    fn read(&self, alloc: Global, name: &str, value: Value) -> Result<Part, Malformed> {
+        match name {
+            "payload" => inner_part(alloc, name, value),
+            "payloadId" => whole(alloc, name, value),
+            "firstOperator" => operator(alloc, name, value, FIRST_OPERATOR),
+            "secondOperator" => operator(alloc, name, value, SECOND_OPERATOR),
+            "sp" | "pn" | "tf" | "mn" | "mx" => carried(name, value),
+            _ => refuse(alloc, name, Kind::Unknown),
+        }
+    }
+
+    fn count(&self) -> usize {
+        9
+    }
+
+    fn row(&self, place: usize) -> (&str, Option<Kind>) {
+        match place {
+            0 => ("payload", Some(Kind::Missing)),
+            1 => ("payloadId", Some(Kind::Missing)),
+            2 => ("firstOperator", Some(Kind::Missing)),
+            3 => ("secondOperator", Some(Kind::ProfileOperator)),
+            4 => ("sp", None),
+            5 => ("pn", None),
+            6 => ("tf", None),
+            7 => ("mn", None),
+            _ => ("mx", None),
+        }
+    }
+}
+
+#[tactic(auto, unfolding(crate::specs::Range::range_of))]
+fn read_document(alloc: Global, document: Document) -> Result<FindRange, Malformed>
+    ensures { Reads result (range_of document) }
 {
-    let inner = inner_at(document);
-    // The length is asked for since its clause says that the names are distinct.
-    let _count = inner.len();
-    let g = list_in(alloc, list_at(inner))?;
-    let extra = extra_of(alloc, document)?;
+    let mut slots = arrange(alloc, &RangeLayout, document)?;
+    let inner = inner_in(alloc, slots.take(0));
     Ok(FindRange {
-        g,
-        cm: natural_at(inner, "cm"),
-        payload_id: int32_at(document, "payloadId"),
-        extra,
+        g: inner.g,
+        cm: inner.cm,
+        payload_id: whole_in(slots.take(1)),
+        extra: extra_in(
+            alloc,
+            slots.take(4),
+            slots.take(5),
+            slots.take(6),
+            slots.take(7),
+            slots.take(8),
+        )?,
     })
 }
 
@@ -269,14 +296,11 @@ fn range_of(alloc: Global, document: &Document) -> Result<FindRange, NoMemory>
 /// 4,096 documents of `d`, `s` and `l`, each a binary of 32 bytes and subtype 0, and of the int64 `cm`), the int32
 /// `payloadId`, `firstOperator` (the int32 2), `secondOperator` (the int32 4), and the optional `sp`, `pn`, `tf`, `mn`
 /// and `mx`.
+#[tactic(auto, unfolding(crate::specs::Range::range_at))]
 pub fn read_range(alloc: Global, blob: &[u8]) -> Result<FindRange, Malformed>
     ensures found { IfOk result (λ payload. IsRangeBlob payload blob.now) }
-    ensures only { (payload : FindRange) → IsRangeBlob payload blob.now → IfErr result (λ e. e ≡ Malformed.NoMemory) }
-    ensures same { (payload : FindRange) → IsRangeBlob payload blob.now → IfOk result (λ read. read ≡ payload) }
-    ensures first { Checks result (range_blob_refusal blob.now) }
+    ensures exact { Reads result (range_at blob.now) }
 {
     let document = open_blob(alloc, FIRST, blob)?;
-    check_range(alloc, &document)?;
-    let payload = range_of(alloc, &document)?;
-    Ok(payload)
+    read_document(alloc, document)
 }

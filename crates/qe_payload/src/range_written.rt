@@ -1,15 +1,18 @@
 //! Find payloads of ranges that are written.
 
-ghost use Rattle.std.specs.Prelude.{◌≡◌, ◌≤◌, ◌≤ℤ◌, ◌++◌, pos, length, IfOk, IfErr};
+ghost use Rattle.std.specs.Prelude.{◌≡◌, ◌≤◌, ◌≤ℤ◌, ◌++◌, pos, length, Ok, IfOk, IfErr};
+ghost use Rattle.std.specs.List.{AllByRecursion};
+ghost use Rattle.qe_document.specs.Spelling.{IsDocument};
 ghost use Rattle.qe_document.specs.Writing.{IsWhyRefused};
-ghost use Rattle.qe_payload.specs.Insert.{extra_names, picked};
-ghost use Rattle.qe_payload.specs.Range.{inner_elements, head_elements, range_elements, written_range, IsInner, IsRange, IsRangeBlob};
+ghost use Rattle.qe_payload.specs.Carried.{extra_names, picked};
+ghost use Rattle.qe_payload.specs.Range.{find_edge_of, find_edge_elements, inner_elements, head_elements, range_elements, written_range, HasLongFindTokens, IsRange, IsRangeBlob};
 
-use crate::entries::array_of;
-use crate::insert::carry_all;
-use crate::range::{FIRST, FIRST_OPERATOR, FindRange, SECOND_OPERATOR};
-use crate::written::{blob_of, put};
-use qe_base::{Bytes, NoMemory};
+use crate::carried::carry_all;
+use crate::entries::{Entry, array_of};
+use crate::parts::GENERIC;
+use crate::range::{FIRST, FIRST_OPERATOR, FindEdge, FindRange, SECOND_OPERATOR};
+use crate::written::{blob_of, put, put_binary};
+use qe_base::{Bytes, NoMemory, bytes_of};
 use qe_document::{Document, EncodeFault, Value};
 use std::alloc::Global;
 
@@ -24,6 +27,7 @@ pub fn write_range(alloc: Global, payload: &FindRange) -> Result<Bytes, EncodeFa
     requires extra { payload.now.extra ≡ picked extra_names payload.now.extra }
     ensures written { IfOk result (λ blob. blob ≡ written_range payload.now) }
     ensures again { IfOk result (λ blob. IsRangeBlob payload.now blob) }
+    ensures fits { IfOk result (λ _. IsDocument (range_elements payload.now)) }
     ensures err { IfErr result (IsWhyRefused (range_elements payload.now)) }
 {
     match document_of(alloc, payload) {
@@ -73,14 +77,36 @@ fn head_of(alloc: Global, payload: &FindRange, inner: Document) -> Result<Docume
 }
 
 fn inner_of(alloc: Global, payload: &FindRange) -> Result<Document, NoMemory>
-    requires factor { pos 0 ≤ℤ payload.now.cm }
-    requires edges { length payload.now.g ≤ 4096 }
     ensures elements { IfOk result (λ document. document ≡ inner_elements payload.now) }
-    ensures is { IfOk result (λ document. IsInner payload.now.g payload.now.cm document) }
+    ensures again { IfOk result (λ _. AllByRecursion (λ edge. find_edge_of (find_edge_elements edge) ≡ Ok edge) payload.now.g) }
 {
     let edges = array_of(alloc, payload.g.slice())?;
     let mut document = Document::new(alloc);
     put(alloc, &mut document, "g", edges)?;
     put(alloc, &mut document, "cm", Value::Int64(payload.cm))?;
+    Ok(document)
+}
+
+impl Entry for FindEdge {
+    ghost use Rattle.std.specs.Prelude.{◌≡◌, Ok};
+    ghost use Rattle.qe_payload.specs.Range.{find_edge_of, find_edge_elements};
+
+    ghost elements = { find_edge_elements };
+
+    ghost again = { λ edge. find_edge_of (find_edge_elements edge) ≡ Ok edge };
+
+    fn write(&self, alloc: Global) -> Result<Document, NoMemory> {
+        edge_document(alloc, self)
+    }
+}
+
+fn edge_document(alloc: Global, edge: &FindEdge) -> Result<Document, NoMemory>
+    ensures elements { IfOk result (λ document. document ≡ find_edge_elements edge.now) }
+    ensures long { IfOk result (λ _. HasLongFindTokens edge.now) }
+{
+    let mut document = Document::new(alloc);
+    put_binary(alloc, &mut document, "d", GENERIC, bytes_of(&edge.d))?;
+    put_binary(alloc, &mut document, "s", GENERIC, bytes_of(&edge.s))?;
+    put_binary(alloc, &mut document, "l", GENERIC, bytes_of(&edge.l))?;
     Ok(document)
 }

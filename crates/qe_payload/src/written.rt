@@ -1,24 +1,16 @@
 //! Documents and blobs that are written.
 
-ghost use Rattle.std.specs.Prelude.{◌≡◌, ◌∷◌, [], ◌++◌, false, length, OnOk, IfOk, IfErr};
+ghost use Rattle.std.specs.Prelude.{◌≡◌, ◌∷◌, [], ◌++◌, false, OnOk, IfOk, IfErr};
 ghost use Rattle.qe_document.specs.Names.{is_named};
-ghost use Rattle.qe_document.specs.Spelling.{document_bytes};
+ghost use Rattle.qe_document.specs.Spelling.{document_bytes, IsDocument};
 ghost use Rattle.qe_document.specs.Views.{plain};
 ghost use Rattle.qe_document.specs.Writing.{IsWhyRefused};
 ghost use Rattle.qe_document.specs.declared.value.Plain.TheVariants as p;
-ghost use Rattle.qe_payload.specs.Blobs.{IsBlob};
+ghost use Rattle.qe_layout.specs.Blobs.{IsBlob};
 
 use qe_base::{Bytes, NoMemory, Text};
 use qe_document::{Document, EncodeFault, PushFault, Value, encode};
 use std::alloc::Global;
-
-/// The bytes of an array, which are as many as its type says.
-pub(crate) fn bytes_of<const N: usize>(array: &[u8; N]) -> &[u8]
-    ensures same { result.now ≡ array.now }
-    ensures long { length result.now ≡ N }
-{
-    array
-}
 
 /// Adds an element of a new name at the end.
 pub(crate) fn put(
@@ -57,6 +49,7 @@ pub(crate) fn put_binary(
 pub(crate) fn blob_of(alloc: Global, kind: u8, document: &Document) -> Result<Bytes, EncodeFault>
     ensures bytes { IfOk result (λ blob. blob ≡ kind ∷ document_bytes document.now) }
     ensures is { IfOk result (λ blob. IsBlob kind document.now blob) }
+    ensures fits { IfOk result (λ _. IsDocument document.now) }
     ensures err { IfErr result (IsWhyRefused document.now) }
 {
     let encoded = encode(alloc, document)?;

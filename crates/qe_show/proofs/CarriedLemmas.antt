@@ -10,9 +10,11 @@ use Rattle.qe_document.specs.Writing.{IsWhyRefused}
 use Rattle.qe_document.proofs.FlatLemmas.{writing_laws}
 use Rattle.qe_payload.specs.declared.insert.InsertPayload.{InsertPayload}
 use Rattle.qe_payload.specs.declared.range.FindRange.{FindRange}
-use Rattle.qe_payload.specs.Elements.{Element}
-use Rattle.qe_payload.specs.Insert.{extra_names, picked_one, picked, IsInsertBlob}
+use Rattle.qe_layout.specs.Layouts.{Element}
+use Rattle.qe_payload.specs.Carried.{extra_names, picked_one, picked}
+use Rattle.qe_payload.specs.Insert.{IsInsertBlob}
 use Rattle.qe_payload.specs.Range.{IsRangeBlob}
+use Rattle.qe_payload.proofs.ExtraLemmas.{insert_extra, range_extra}
 use Rattle.qe_show.specs.Payloads.{AreWritable}
 
 one_writable : (name : List ℕ) (value : Option Plain) (rest : List Element) → ((v : Plain) → value ≡ Some v → IsDocument (([], v) ∷ [])) → AreWritable rest
@@ -26,10 +28,10 @@ picked_writable (name ∷ names) elements is =
     one_writable name (value_named name elements) (picked names elements) (λ v found. writing_laws.alone elements name v is found) (picked_writable names elements is)
 
 pub insert_writable : (payload : InsertPayload) (blob : List ℕ) → IsInsertBlob payload blob → AreWritable payload.extra
-insert_writable payload blob is = rw is.payload_is.extra (picked_writable extra_names is.elements is.blob_is.document.document)
+insert_writable payload blob is = rw (insert_extra payload is.elements is.payload_is) (picked_writable extra_names is.elements is.blob_is.document.document)
 
 pub range_writable : (payload : FindRange) (blob : List ℕ) → IsRangeBlob payload blob → AreWritable payload.extra
-range_writable payload blob is = rw is.payload_is.extra (picked_writable extra_names is.elements is.blob_is.document.document)
+range_writable payload blob is = rw (range_extra payload is.elements is.payload_is) (picked_writable extra_names is.elements is.blob_is.document.document)
 
 -- the element at a place begins what is left there
 pub element_next : (elements : List Element) (i : ℕ) (name : List ℕ) (v : Plain) → Some name ≡ option_map (λ e. e.0) (slice_get elements i)

@@ -1,15 +1,15 @@
 -- The line that shows a blob: its parts by name, or the first refusal and its path.
-use Rattle.std.specs.Prelude.{◌≡◌, ◌⊎◌, ℕ, pos, List, ◌++◌, slice_index, codes, ◌==◌, Bool, true, false, if◌then◌else◌, Option, Some, Result, Err}
+use Rattle.std.specs.Prelude.{◌≡◌, ◌⊎◌, ℕ, pos, List, ◌++◌, slice_index, codes, ◌==◌, Bool, true, false, if◌then◌else◌, Option, Some, Result, Err, None}
 use Rattle.std.specs.Fmt.{decimal}
 use Rattle.qe_indexed.specs.declared.block.Block.{Block}
 use Rattle.qe_indexed.specs.declared.fault.IndexedFault.{IndexedFault}
 use Rattle.qe_indexed.specs.Parts.{Indexed}
 use Rattle.qe_indexed.specs.Spelling.{IsLaidOut}
 use Rattle.qe_indexed.specs.Reading.{indexed_at}
-use Rattle.qe_payload.specs.Equal.{IsEqualBlob, equal_blob_refusal}
-use Rattle.qe_payload.specs.Insert.{IsInsertBlob, insert_blob_refusal}
-use Rattle.qe_payload.specs.Range.{IsRangeBlob, range_blob_refusal}
-use Rattle.qe_payload.specs.Refusal.{Refusal}
+use Rattle.qe_payload.specs.Equal.{equal_at, IsEqualBlob}
+use Rattle.qe_payload.specs.Insert.{insert_at, IsInsertBlob}
+use Rattle.qe_payload.specs.Range.{range_at, IsRangeBlob}
+use Rattle.qe_layout.specs.Refusal.{Refusal}
 use Rattle.qe_show.specs.Kinds.{kind_text, indexed_text}
 use Rattle.qe_show.specs.Parts.{hex_part, number_part, uuid_part, parts_from}
 use Rattle.qe_show.specs.Payloads.{insert_line, equal_line, range_line}
@@ -41,10 +41,15 @@ pub record ShowsParts {A : Type 0} (IsBlobOf : A → List ℕ → Type 0) (line_
   pub is_blob : IsBlobOf value blob
   pub printed : line ≡ line_of value
 
+-- the line of a refusal
+abbrev pub IsLineOf : Option Refusal → List ℕ → Type 0
+IsLineOf None line = ⊥
+IsLineOf (Some refusal) line = line ≡ refusal_line refusal.path (kind_text refusal.kind)
+
 -- the blob is refused, and the line has the refusal
-pub record ShowsRefusal (due : Option Refusal) (line : List ℕ) : Type 0 where
+pub record ShowsRefusal {P : Type 0} (due : Result P Refusal) (line : List ℕ) : Type 0 where
   pub refusal : Refusal
-  pub is_due : due ≡ Some refusal
+  pub is_due : due ≡ Err refusal
   pub printed : line ≡ refusal_line refusal.path (kind_text refusal.kind)
 
 -- an indexed value's path is the whole
@@ -60,9 +65,9 @@ form_of blob =
     else (if slice_index blob 0 == 12 then form.Equal else (if slice_index blob 0 == 13 then form.Range else form.Indexed))
 
 abbrev pub ShowsAs : Form → List ℕ → List ℕ → Type 0
-ShowsAs form.Insert blob line = ShowsParts IsInsertBlob insert_line blob line ⊎ ShowsRefusal (insert_blob_refusal blob) line
-ShowsAs form.Equal blob line = ShowsParts IsEqualBlob equal_line blob line ⊎ ShowsRefusal (equal_blob_refusal blob) line
-ShowsAs form.Range blob line = ShowsParts IsRangeBlob range_line blob line ⊎ ShowsRefusal (range_blob_refusal blob) line
+ShowsAs form.Insert blob line = ShowsParts IsInsertBlob insert_line blob line ⊎ ShowsRefusal (insert_at blob) line
+ShowsAs form.Equal blob line = ShowsParts IsEqualBlob equal_line blob line ⊎ ShowsRefusal (equal_at blob) line
+ShowsAs form.Range blob line = ShowsParts IsRangeBlob range_line blob line ⊎ ShowsRefusal (range_at blob) line
 ShowsAs form.Indexed blob line = ShowsParts IsLaidOut indexed_line blob line ⊎ ShowsFault (indexed_at blob) line
 
 abbrev pub ShowsBlob : List ℕ → List ℕ → Type 0

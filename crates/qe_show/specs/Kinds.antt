@@ -7,8 +7,8 @@ use Rattle.qe_document.specs.declared.fault.BsonKind.{BsonKind}
 use Rattle.qe_document.specs.declared.fault.BsonKind.TheVariants as place
 use Rattle.qe_indexed.specs.declared.fault.IndexedFault.{IndexedFault}
 use Rattle.qe_indexed.specs.declared.fault.IndexedFault.TheVariants as indexed
-use Rattle.qe_payload.specs.declared.malformed.Kind.{Kind}
-use Rattle.qe_payload.specs.declared.malformed.Kind.TheVariants as kind
+use Rattle.qe_layout.specs.declared.malformed.Kind.{Kind}
+use Rattle.qe_layout.specs.declared.malformed.Kind.TheVariants as kind
 
 abbrev pub with_number : List ℕ → ℕ → List ℕ
 with_number name number = name ++ (codes " " ++ decimal number)

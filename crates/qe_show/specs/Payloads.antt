@@ -9,7 +9,7 @@ use Rattle.qe_payload.specs.declared.insert.EdgeTokens.{EdgeTokens}
 use Rattle.qe_payload.specs.declared.insert.InsertPayload.{InsertPayload}
 use Rattle.qe_payload.specs.declared.range.FindEdge.{FindEdge}
 use Rattle.qe_payload.specs.declared.range.FindRange.{FindRange}
-use Rattle.qe_payload.specs.Elements.{Element}
+use Rattle.qe_layout.specs.Layouts.{Element}
 use Rattle.qe_show.specs.Parts.{named, hex_part, number_part, uuid_part, token_part, parts_from, carried_parts}
 
 -- the tokens of an edge, by the edge's place from 0

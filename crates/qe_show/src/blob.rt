@@ -1,8 +1,8 @@
 //! The line of a blob.
 
-ghost use Rattle.std.specs.Prelude.{◌≡◌, IfOk, Option, Some};
-ghost use Rattle.qe_payload.specs.Refusal.{Refusal, IsRefusal};
-ghost use Rattle.qe_show.specs.Blob.{indexed_head, indexed_line, refusal_line, form_of, ShowsRefusal, ShowsAs, ShowsBlob};
+ghost use Rattle.std.specs.Prelude.{◌≡◌, IfOk};
+ghost use Rattle.qe_layout.specs.Refusal.{refusal_of};
+ghost use Rattle.qe_show.specs.Blob.{indexed_head, indexed_line, refusal_line, form_of, IsLineOf, ShowsAs, ShowsBlob};
 ghost use Rattle.qe_show.specs.Kinds.{kind_text, indexed_text};
 
 use crate::kinds::{indexed_text, kind_text};
@@ -121,7 +121,7 @@ fn indexed_head(range: bool) -> &'static str
 
 // The line of a refusal.
 fn malformed_line(alloc: Global, refusal: Malformed) -> Result<Bytes, NoMemory>
-    ensures { (due : Option Refusal) → IsRefusal refusal due → IfOk result (ShowsRefusal due) }
+    ensures { IfOk result (IsLineOf (refusal_of refusal)) }
 {
     match refusal {
         Malformed::At { path, kind } => {
