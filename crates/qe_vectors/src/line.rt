@@ -2,8 +2,6 @@
 
 use hex::FromHexError;
 use qe_base::{Failed, NoMemory, TakeFault};
-use qe_edges::DomainFault;
-use qe_indexed::IndexedFault;
 use std::alloc::AllocError;
 use std::{fmt, io};
 
@@ -51,18 +49,6 @@ impl From<Failed> for Fault {
 impl From<TakeFault> for Fault {
     fn from(_: TakeFault) -> Self {
         Fault::Failed
-    }
-}
-
-impl From<IndexedFault> for Fault {
-    fn from(_: IndexedFault) -> Self {
-        Fault::Refused
-    }
-}
-
-impl From<DomainFault> for Fault {
-    fn from(_: DomainFault) -> Self {
-        Fault::Refused
     }
 }
 

@@ -4,9 +4,7 @@
 
 mod ciphers;
 mod hashes;
-mod indexed_values;
 mod line;
-mod prefixes;
 mod sealed_values;
 mod streams;
 mod token_tree;
@@ -18,7 +16,5 @@ fn main(rt: HostRuntime) -> Result<(), Fault> {
     ciphers::print(&rt)?;
     hashes::print(&rt)?;
     sealed_values::print(&rt)?;
-    token_tree::print(&rt)?;
-    indexed_values::print(&rt)?;
-    prefixes::print(&rt)
+    token_tree::print(&rt)
 }
