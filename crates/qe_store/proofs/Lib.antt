@@ -1,0 +1,4 @@
+mod ListLemmas
+mod HoldLemmas
+mod PlaceLemmas
+mod IdLemmas

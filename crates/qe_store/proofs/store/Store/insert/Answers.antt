@@ -1,0 +1,13 @@
+use Rattle.std.proofs.Common.{rules, ◌≡◌, ◌+◌, ◌∷◌, [], ◌++◌, map, ap, subst, sym, ◌∙◌}
+use Rattle.qe_store.specs.Kept.{Holds, paired}
+use Rattle.qe_store.proofs.HoldLemmas.{inserted}
+use Rattle.qe_store.proofs.store.Store.insert.Goals as goal
+
+pub invariant_of-self : goal.invariant_of-self
+invariant_of-self c =
+    let a = c.self.inside in
+    let items : c.push.new.self.items ≡ a.documents.items ++ (a.made, c.args.stored) ∷ [] = search rules in
+    subst (λ m. Holds m (a.made + 1) c.link.new.self.pairs c.link_all.new.chains.pairs) (sym items)
+    (inserted a.documents.items a.made a.ids.pairs a.tags.pairs c.link.new.self.pairs c.link_all.new.chains.pairs c.args.stored c.self.invariant
+    (c.link.ensures.pairs ∙ ap (λ key. a.ids.pairs ++ (key, a.made) ∷ []) c.key_of-key.ensures)
+    (c.link_all.ensures.pairs ∙ ap (λ tags. a.tags.pairs ++ map (paired a.made) tags) c.slice.ensures))
