@@ -1,0 +1,226 @@
+//! Payloads of inserts, as another program writes them.
+
+use crate::line::{Fault, Hex};
+use qe_base::{Bytes, Text};
+use qe_document::{BsonFault, BsonKind, Document, Value};
+use qe_payload::{EdgeList, EdgeTokens, InsertPayload, Kind, Malformed, read_insert, write_insert};
+use std::alloc::Global;
+
+// An equality payload of an int32.
+const WRITTEN: &str =
+    "0b5f01000005640020000000001111111111111111111111111111111111111111111111111111111111111111057300\
+    200000000022222222222222222222222222222222222222222222222222222222222222220570003000000000333333\
+    333333333333333333333333333333333333333333333333333333333333333333333333333333333333333333057500\
+    100000000444444444444444444444444444444444107400100000000576005000000000555555555555555555555555\
+    555555555555555555555555555555555555555555555555555555555555555555555555555555555555555555555555\
+    555555555555555555555555555555555555555505650020000000006666666666666666666666666666666666666666\
+    666666666666666666666666056c00200000000077777777777777777777777777777777777777777777777777777777\
+    77777777126b00050000000000000000";
+
+// Its elements from the last to the first.
+const REVERSED: &str =
+    "0b5f010000126b000500000000000000056c002000000000777777777777777777777777777777777777777777777777\
+    777777777777777705650020000000006666666666666666666666666666666666666666666666666666666666666666\
+    057600500000000055555555555555555555555555555555555555555555555555555555555555555555555555555555\
+    555555555555555555555555555555555555555555555555555555555555555555555555555555551074001000000005\
+    750010000000044444444444444444444444444444444405700030000000003333333333333333333333333333333333\
+    333333333333333333333333333333333333333333333333333333333333330573002000000000222222222222222222\
+    222222222222222222222222222222222222222222222205640020000000001111111111111111111111111111111111\
+    11111111111111111111111111111100";
+
+// A payload with two edges, `sp` and `mx`.
+const OF_A_RANGE: &str =
+    "0beb02000005640020000000001111111111111111111111111111111111111111111111111111111111111111057300\
+    200000000022222222222222222222222222222222222222222222222222222222222222220570003000000000333333\
+    333333333333333333333333333333333333333333333333333333333333333333333333333333333333333333057500\
+    100000000444444444444444444444444444444444107400100000000576005000000000555555555555555555555555\
+    555555555555555555555555555555555555555555555555555555555555555555555555555555555555555555555555\
+    555555555555555555555555555555555555555505650020000000006666666666666666666666666666666666666666\
+    666666666666666666666666056c00200000000077777777777777777777777777777777777777777777777777777777\
+    77777777126b00050000000000000004670075010000033000b50000000564002000000000aaaaaaaaaaaaaaaaaaaaaa\
+    aaaaaaaaaaaaaaaaaaaaaaaaaaaaaaaaaaaaaaaaaa0573002000000000bbbbbbbbbbbbbbbbbbbbbbbbbbbbbbbbbbbbbb\
+    bbbbbbbbbbbbbbbbbbbbbbbbbb056c002000000000cccccccccccccccccccccccccccccccccccccccccccccccccccccc\
+    cccccccccc0570003000000000dddddddddddddddddddddddddddddddddddddddddddddddddddddddddddddddddddddd\
+    dddddddddddddddddddddddddd00033100b50000000564002000000000aaaaaaaaaaaaaaaaaaaaaaaaaaaaaaaaaaaaaa\
+    aaaaaaaaaaaaaaaaaaaaaaaaaa0573002000000000bbbbbbbbbbbbbbbbbbbbbbbbbbbbbbbbbbbbbbbbbbbbbbbbbbbbbb\
+    bbbbbbbbbb056c002000000000cccccccccccccccccccccccccccccccccccccccccccccccccccccccccccccccc057000\
+    3000000000dddddddddddddddddddddddddddddddddddddddddddddddddddddddddddddddddddddddddddddddddddddd\
+    dddddddddd0000127370000200000000000000106d78000700000000";
+
+// An array `g` of 66 nulls.
+const EDGES_66: &str =
+    "0b0b010000046700030100000a30000a31000a32000a33000a34000a35000a36000a37000a38000a39000a3130000a31\
+    31000a3132000a3133000a3134000a3135000a3136000a3137000a3138000a3139000a3230000a3231000a3232000a32\
+    33000a3234000a3235000a3236000a3237000a3238000a3239000a3330000a3331000a3332000a3333000a3334000a33\
+    35000a3336000a3337000a3338000a3339000a3430000a3431000a3432000a3433000a3434000a3435000a3436000a34\
+    37000a3438000a3439000a3530000a3531000a3532000a3533000a3534000a3535000a3536000a3537000a3538000a35\
+    39000a3630000a3631000a3632000a3633000a3634000a3635000000";
+
+const EDGE: EdgeTokens = EdgeTokens {
+    d: [0xaa; 32],
+    s: [0xbb; 32],
+    l: [0xcc; 32],
+    p: [0xdd; 48],
+};
+
+/// Prints what is read, written and refused.
+pub fn print(rt: &(impl Print + AllocGlobal)) -> Result<(), Fault> {
+    for digits in [WRITTEN, REVERSED, OF_A_RANGE] {
+        print_read(rt, digits)?;
+    }
+    print_written(rt)?;
+    print_refusals(rt)?;
+    print_cuts(rt)
+}
+
+fn print_written(rt: &(impl Print + AllocGlobal)) -> Result<(), Fault> {
+    let equality = equality_of(rt.alloc())?;
+    println!(rt; "insert of an equality: {}", Hex(equality.slice()))?;
+    let range = range_of(rt.alloc())?;
+    println!(rt; "insert of a range: {}", Hex(range.slice()))?;
+    Ok(())
+}
+
+fn print_read(rt: &(impl Print + AllocGlobal), digits: &str) -> Result<(), Fault> {
+    let blob = hex::decode(rt.alloc(), digits)?;
+    match read_insert(rt.alloc(), blob.as_slice()) {
+        Ok(payload) => print_payload(rt, &payload),
+        Err(fault) => print_malformed(rt, "insert", digits, &fault),
+    }
+}
+
+fn print_payload(rt: &impl Print, payload: &InsertPayload) -> Result<(), Fault> {
+    for (name, token) in [
+        ("d", &payload.d),
+        ("s", &payload.s),
+        ("e", &payload.e),
+        ("l", &payload.l),
+    ] {
+        println!(rt; "{name} {}", Hex(token))?;
+    }
+    println!(rt; "p {} u {}", Hex(&payload.p), Hex(&payload.u))?;
+    println!(rt;
+        "t {} k {} v {}",
+        payload.t,
+        payload.k,
+        Hex(payload.v.slice())
+    )?;
+    if let Some(edges) = &payload.g {
+        print_edges(rt, edges)?;
+    }
+    print_carried(rt, &payload.extra)
+}
+
+fn print_edges(rt: &impl Print, edges: &EdgeList) -> Result<(), Fault> {
+    for edge in edges.slice() {
+        println!(rt; "edge d {} s {}", Hex(&edge.d), Hex(&edge.s))?;
+        println!(rt; "edge l {} p {}", Hex(&edge.l), Hex(&edge.p))?;
+    }
+    Ok(())
+}
+
+/// Prints the names of what is carried.
+pub fn print_carried(rt: &impl Print, extra: &Document) -> Result<(), Fault> {
+    for i in 0..extra.len() {
+        println!(rt; "carried {}", extra.name(i))?;
+    }
+    Ok(())
+}
+
+/// Prints a refusal and its path.
+pub fn print_malformed(
+    rt: &impl Print,
+    what: &str,
+    digits: &str,
+    fault: &Malformed,
+) -> Result<(), Fault> {
+    match fault {
+        Malformed::At { path, kind } => println!(rt;
+            "{what} {digits}: {} {kind:?}",
+            path.as_str()
+        )?,
+        Malformed::NoMemory => return Err(Fault::NoMemory),
+    }
+    Ok(())
+}
+
+fn equality_of(alloc: Global) -> Result<Bytes, Fault> {
+    let payload = InsertPayload {
+        d: [0x11; 32],
+        s: [0x22; 32],
+        p: [0x33; 48],
+        u: [0x44; 16],
+        t: 16,
+        v: Bytes::from_slice(alloc, &[0x55; 80])?,
+        e: [0x66; 32],
+        l: [0x77; 32],
+        k: 5,
+        g: None,
+        extra: Document::new(alloc),
+    };
+    Ok(write_insert(alloc, &payload)?)
+}
+
+fn range_of(alloc: Global) -> Result<Bytes, Fault> {
+    let mut extra = Document::new(alloc);
+    extra.push(Text::of(alloc, "sp")?, Value::Int64(2))?;
+    extra.push(Text::of(alloc, "mx")?, Value::Int32(7))?;
+    let payload = InsertPayload {
+        d: [0x11; 32],
+        s: [0x22; 32],
+        p: [0x33; 48],
+        u: [0x44; 16],
+        t: 16,
+        v: Bytes::from_slice(alloc, &[0x55; 80])?,
+        e: [0x66; 32],
+        l: [0x77; 32],
+        k: 5,
+        g: Some(EdgeList::from_slice(alloc, &[EDGE, EDGE])?),
+        extra,
+    };
+    Ok(write_insert(alloc, &payload)?)
+}
+
+fn print_refusals(rt: &(impl Print + AllocGlobal)) -> Result<(), Fault> {
+    for digits in [
+        "0c0500000000",
+        "0b0500000000",
+        "0b080000000a780000",
+        "0b2c0000000564001f000000001111111111111111111111111111111111111111111111111111111111111100",
+        "0b1d00000005750010000000004444444444444444444444444444444400",
+        "0b10000000126b00ffffffffffffffff00",
+        "0b10000000127400010000000000000000",
+        "0b0d000000046700050000000000",
+        EDGES_66,
+        "0b080000000a670000",
+        "0b1800000004670010000000033000080000000a6400000000",
+        "0b150000000467000d00000003300005000000000000",
+    ] {
+        print_read(rt, digits)?;
+    }
+    Ok(())
+}
+
+// A payload that is cut lacks bytes wherever it is cut.
+fn print_cuts(rt: &(impl Print + AllocGlobal)) -> Result<(), Fault> {
+    print_read(rt, "")?;
+    let blob = hex::decode(rt.alloc(), WRITTEN)?;
+    let mut short = 0u64;
+    for place in 0..blob.len().saturating_sub(1) {
+        if is_short_at(rt.alloc(), &blob[..place + 1], place) {
+            short = short.saturating_add(1);
+        }
+    }
+    println!(rt; "cut inserts that are short at their end: {short}")?;
+    Ok(())
+}
+
+fn is_short_at(alloc: Global, blob: &[u8], place: usize) -> bool {
+    let kind = BsonKind::Short;
+    match read_insert(alloc, blob) {
+        Err(Malformed::At { path, kind: got }) => {
+            path.as_str() == "." && got == Kind::Bson(BsonFault::At { place, kind })
+        }
+        _ => false,
+    }
+}
