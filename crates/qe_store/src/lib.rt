@@ -1,4 +1,4 @@
-//! Stored documents, found by number, by id and by tags.
+//! Stored documents, found by number and by id, with their tags.
 //!
 //!     store.reserve(1, tags.len())?;
 //!     store.insert(stored); // its number is what `store.made()` was
