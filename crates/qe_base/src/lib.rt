@@ -2,7 +2,7 @@
 //!
 //! A `Source` gives bytes and a `Sink` takes them, in order; both count their faults, and a call is refused only
 //! where that count rose. `take_all` and `put_all` move whole texts. `Listing`, `Bytes` and `Text` are what
-//! contracts see as plain lists. Read: outside, transfer, memory, standard, listing, text, lines, arrays, steps, status.
+//! contracts see as plain lists. Read: outside, transfer, memory, standard, listing, text, lines, arrays, steps, maintenance, status.
 //!
 //!     let mut sink = MemorySink::new(alloc, 3)?;
 //!     put_all(&mut sink, take_all(alloc, &mut source)?.slice())?;
@@ -13,6 +13,7 @@ mod arrays;
 mod failure;
 mod lines;
 mod listing;
+mod maintenance;
 mod memory;
 mod outside;
 mod standard;
@@ -24,7 +25,8 @@ mod transfer;
 pub use arrays::{array_at, bytes_of, write_at};
 pub use failure::{Failed, NoMemory};
 pub use lines::Lines;
-pub use listing::{Bytes, Duplicate, Ids, Listing, Numbers, Tags, Texts};
+pub use listing::{Bytes, Duplicate, Ids, KeyList, Listing, Nonces, Numbers, Tags, Texts};
+pub use maintenance::{Count, Counts, JobKind};
 pub use memory::{MemorySink, MemorySource};
 pub use outside::{FreeGate, Gate, Sink, Source};
 pub use standard::{StdSink, StdSource};

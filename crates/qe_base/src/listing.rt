@@ -31,6 +31,12 @@ pub type Ids = Listing<[u8; 32]>;
 /// Tags of documents, 32 bytes each.
 pub type Tags = Listing<[u8; 32]>;
 
+/// Random words of the client, 16 bytes each.
+pub type Nonces = Listing<[u8; 16]>;
+
+/// Data keys, 96 bytes each.
+pub type KeyList = Listing<[u8; 96]>;
+
 /// Numbers.
 pub type Numbers = Listing<u64>;
 
@@ -137,7 +143,19 @@ impl Duplicate for u64 {
     }
 }
 
+impl Duplicate for [u8; 16] {
+    fn copy(&self) -> Result<Self, NoMemory> {
+        Ok(*self)
+    }
+}
+
 impl Duplicate for [u8; 32] {
+    fn copy(&self) -> Result<Self, NoMemory> {
+        Ok(*self)
+    }
+}
+
+impl Duplicate for [u8; 96] {
     fn copy(&self) -> Result<Self, NoMemory> {
         Ok(*self)
     }

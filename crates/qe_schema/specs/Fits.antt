@@ -7,8 +7,8 @@ use Rattle.qe_document.specs.Limits.{most_bytes, most_levels}
 use Rattle.qe_document.specs.Measures.{depth, zero_in, value_length, fields_length, items_length}
 use Rattle.qe_edges.specs.Rules.{Rules}
 use Rattle.qe_edges.specs.Prefixes.{edges_of, cover_of}
-use Rattle.qe_schema.specs.declared.command.JobKind.{JobKind}
-use Rattle.qe_schema.specs.declared.command.JobKind.TheVariants as j
+use Rattle.qe_base.specs.declared.maintenance.JobKind.{JobKind}
+use Rattle.qe_base.specs.declared.maintenance.JobKind.TheVariants as j
 use Rattle.qe_schema.specs.declared.command.Pair.{Pair}
 use Rattle.qe_schema.specs.declared.command.PlainCell.{PlainCell}
 use Rattle.qe_schema.specs.declared.command.PlainCommand.{PlainCommand}

@@ -1,17 +1,8 @@
 //! Commands and their answers, without any encryption.
 
 use crate::carried::Carried;
-use qe_base::{Listing, Text};
+use qe_base::{JobKind, Listing, Text};
 use qe_document::{Document, Values};
-
-/// What a job of maintenance does.
-#[derive(Clone, Copy, Debug, PartialEq, Eq)]
-pub enum JobKind {
-    /// Positions are summed up in anchors.
-    Compact,
-    /// Positions and anchors are summed up in the null anchor.
-    Cleanup,
-}
 
 /// A command as it was written, before it is judged under a schema.
 #[derive(Drop)]

@@ -9,12 +9,9 @@ use crate::fault::KeyFault;
 use crate::field::Field;
 use crate::lookup::is_encrypted;
 use crate::schema::Schema;
-use qe_base::{Duplicate, Listing, NoMemory, array_at};
+use qe_base::{Duplicate, KeyList, Listing, NoMemory, array_at};
 use std::alloc::Global;
 use std::marker::Model;
-
-/// Keys of 96 bytes.
-pub type KeyList = Listing<[u8; 96]>;
 
 /// The keys of a schema's encrypted fields, in the order of the fields. Contracts see their list.
 #[derive(Drop)]

@@ -29,12 +29,12 @@ mod values;
 
 pub use carried::Carried;
 pub use command::{
-    Cells, Filter, JobKind, Pair, Pairs, PlainCell, PlainCommand, PlainDocument, PlainDocuments,
-    PlainReply, RawCommand, Term,
+    Cells, Filter, Pair, Pairs, PlainCell, PlainCommand, PlainDocument, PlainDocuments, PlainReply,
+    RawCommand, Term,
 };
 pub use fault::{KeyFault, PlainFault, SchemaFault};
 pub use field::{Field, FieldKind};
-pub use keys::{KeyList, Keys};
+pub use keys::Keys;
 pub use laws::{
     resolved_cells_are_the_fields, resolved_terms_are_the_fields, what_is_read_is_a_schema,
 };

@@ -22,4 +22,4 @@ pub use tokens::{
     esc, esc_contention, esc_derived, esc_tag, esc_value, root_key, server_cipher, server_count,
     server_derived, server_token, server_zeros,
 };
-pub use words::{Label, LabelKind, Word};
+pub use words::{FieldToken, Label, LabelKind, TokenList, Word, Words};

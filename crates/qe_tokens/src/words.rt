@@ -2,7 +2,8 @@
 
 ghost use Rattle.std.specs.Prelude.{◌≡◌, IfOk};
 
-use qe_base::{Bytes, Duplicate, NoMemory};
+use crate::tokens::EcocToken;
+use qe_base::{Bytes, Duplicate, Listing, NoMemory};
 
 /// What is counted: one item of a field under one contention factor.
 #[derive(Drop)]
@@ -39,6 +40,27 @@ pub struct Label {
     pub word: Word,
     /// Which one of the word's.
     pub number: u64,
+}
+
+/// Words.
+pub type Words = Listing<Word>;
+
+/// A field's token for compaction and cleanup, which a begin of a job sends.
+#[derive(Clone, Copy, Debug, PartialEq, Eq)]
+pub struct FieldToken {
+    /// The field's number.
+    pub field: u32,
+    /// What opens the field's rows for compaction.
+    pub token: EcocToken,
+}
+
+/// Tokens of fields, in rising field number.
+pub type TokenList = Listing<FieldToken>;
+
+impl Duplicate for FieldToken {
+    fn copy(&self) -> Result<Self, NoMemory> {
+        Ok(*self)
+    }
 }
 
 impl Duplicate for Word {
