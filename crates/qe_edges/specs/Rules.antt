@@ -69,7 +69,7 @@ IsSparsity sparsity = (1 ≤ sparsity) × (sparsity ≤ 8)
 abbrev pub StoresOnlyLong : Rules → Type 0
 StoresOnlyLong rules = (level : ℕ) → IsStored rules level → 10 < level
 
--- the trim factor leaves not even the whole string, or only long prefixes
+-- the trim factor isn't below the number of digits, or only long prefixes are stored
 abbrev pub HasTrimFault : Rules → Type 0
 HasTrimFault rules = (bits_of rules ≤ rules.trim) ⊎ StoresOnlyLong rules
 

@@ -14,7 +14,7 @@ pub const MOST_OF_COVER: usize = 4096;
 
 impl Domain {
     /// The cover of an interval, in rising order. The ends are cut with the domain; where nothing is left the cover is
-    /// empty. It takes one step for each prefix that it gives.
+    /// empty.
     pub fn cover(&self, alloc: Global, lo: i64, hi: i64) -> Result<Edges, NoMemory>
         ensures exact { IfOk result (λ cover. cover ≡ cover_of self.now lo hi) }
         ensures members { IfOk result (Lists (IsInCover self.now lo hi)) }

@@ -23,7 +23,7 @@ pub enum DomainFault {
     #[error("the sparsity is not 1 to 8")]
     SparsityRange,
     /// The trim factor isn't below the number of digits, or the lowest stored level is above 10.
-    #[error("the trim factor leaves no level of at most 10 digits")]
+    #[error("the trim factor is not below the number of digits, or no stored level has at most 10")]
     TrimRange,
 }
 

@@ -12,7 +12,7 @@ use std::alloc::Global;
 pub const MOST_EDGES: usize = 65;
 
 impl Domain {
-    /// The edges of a value, shortest first. It takes one step for each.
+    /// The edges of a value, shortest first.
     pub fn edges(&self, alloc: Global, v: i64) -> Result<Edges, NoMemory>
         requires { InDomain self.now v }
         ensures exact { IfOk result (λ edges. edges ≡ edges_of self.now v) }

@@ -6,9 +6,10 @@
 //! domain.cover(alloc, 1, 6)?;  // 001, 01, 10, 110: a value's edges have one of them where it lies in the interval
 //! ```
 //!
-//! A value of a domain is a string of binary digits. Its edges are its prefixes at the stored levels, and the cover
-//! of an interval is the least set of stored prefixes that begin exactly the interval's values. So a value lies in
-//! the interval exactly where its edges and the cover share a prefix, and then they share one (`meet_once`).
+//! A value of a domain is a string of binary digits. Its edges are its prefixes at the stored levels. The cover of an
+//! interval is the stored prefixes whose block (all strings that they begin) lies inside the interval, and of which no
+//! shorter one's does. So a value lies in the interval exactly where its edges and the cover share a prefix, and then
+//! they share one (`meet_once`).
 //! Read: domain, levels, edge, edges, cover, laws.
 #![tactic(auto)]
 

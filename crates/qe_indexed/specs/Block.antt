@@ -1,4 +1,4 @@
--- The blocks of an indexed value (FLE2TagAndEncryptedMetadataBlock of libmongocrypt). Blocks, keys and IVs are lists of bytes.
+-- The blocks of an indexed value (after FLE2TagAndEncryptedMetadataBlock of libmongocrypt). Blocks, keys and IVs are lists of bytes.
 use Rattle.std.specs.Prelude.{◌≡◌, ℕ, ◌^◌, ◌<◌, List, ◌++◌, length, take, drop, replicate}
 use Rattle.qe_seal.specs.Enciphered.{enciphered, deciphered, enciphered_pair, deciphered_pair}
 use Rattle.qe_tokens.specs.Tokens.{server_count_of, server_zeros_of, document_tag_of}

@@ -1,4 +1,4 @@
--- How indexed values are spelt in bytes: IndexedEqualityEncryptedValueV2 and IndexedRangeEncryptedValueV2 of libmongocrypt.
+-- How indexed values are spelt in bytes, after IndexedEqualityEncryptedValueV2 and IndexedRangeEncryptedValueV2 of libmongocrypt.
 use Rattle.std.specs.Prelude.{◌≡◌, ℕ, ◌+◌, ◌*◌, ◌-◌, ◌≤◌, List, [], ◌∷◌, ◌++◌, length, take, drop, flat_map, Bool, true, false, All}
 use Rattle.qe_indexed.specs.declared.block.Block.{Block}
 use Rattle.qe_indexed.specs.Parts.{Indexed, IsWithin, most_blocks}

@@ -6,10 +6,10 @@
 //! let (count, contention, is_own) = open_block(value.block(0), &server);
 //! ```
 //!
-//! An `IndexedValue` is laid out as libmongocrypt's IndexedEqualityEncryptedValueV2 (first byte 14) or
+//! An `IndexedValue` is laid out after libmongocrypt's IndexedEqualityEncryptedValueV2 (first byte 14) or
 //! IndexedRangeEncryptedValueV2 (first byte 15): a head, the server-encrypted value, and blocks of 96 bytes. Each
 //! block has the tag by which a search finds the document, between its number and its zeros under the item's tokens.
-//! Read: block, value, fault, reading, writing, laws; the definitions in `specs/` stand in the same order.
+//! Read: block, value, fault, reading, writing, laws; of `specs/`: Block, Parts, Spelling, Faults, Reading, Laws.
 #![tactic(auto)]
 
 mod block;

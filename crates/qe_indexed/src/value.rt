@@ -13,7 +13,8 @@ pub type Blocks = Listing<Block>;
 
 /// What a server stores in the place of a value that is searched for.
 ///
-/// The server-encrypted value has at least 16 bytes: an IV, and the AES-256-CTR cipher of what the client sealed.
+/// The server-encrypted value has at least 16 bytes: an IV, and the AES-256-CTR cipher of the payload's
+/// `v`, which is the user's key id and the sealed value.
 #[derive(Drop)]
 pub struct IndexedValue {
     /// Whether the value's field is searched by range. If not there is one block, else 1 to 255, one for each edge.

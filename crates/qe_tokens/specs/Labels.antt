@@ -43,7 +43,8 @@ abbrev pub HasLabels : LabelKind → Word → Type 0
 HasLabels Tag (Stray token) = ⊥
 HasLabels kind word = Unit {0}
 
--- A label of a run: `counted word n` says that the word is one of the run's, and was indexed n times.
+-- A label of a run: `counted word n` says that the word is one of the run's, and was indexed n times; it gives a word one
+-- number, and a stray word 0.
 pub record IsLabel (counted : Word → ℕ → Type 0) (label : Label) : Type 0 where
   pub count : ℕ
   pub known : counted label.word count

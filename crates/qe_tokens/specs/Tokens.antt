@@ -1,4 +1,4 @@
--- The token tree of Queryable Encryption, version 2 (libmongocrypt). Tokens, items and identifiers are lists of bytes;
+-- The token tree of Queryable Encryption, version 2, after libmongocrypt's. Tokens, items and identifiers are lists of bytes;
 -- a number under a key is HMAC-SHA-256 of its 8 little-endian bytes (`prf1_of`).
 use Rattle.std.specs.Prelude.{ℕ, List, take, drop}
 use Rattle.qe_seal.specs.Hmac.{hmac_sha256, prf1_of, prf2_of}

@@ -6,7 +6,7 @@
 //! let id = position_id(&esc_tag(&contention), 1); // of the row that the item's first insert adds
 //! ```
 //!
-//! Each call is one HMAC, equal to its line of `specs/Tokens.antt`, and takes no memory. Words and labels say what
+//! Each call but `root_key` is one HMAC, equal to its line of `specs/Tokens.antt`, and takes no memory. Words and labels say what
 //! an identifier stands for. Read: tokens, identifiers, words.
 #![tactic(auto)]
 

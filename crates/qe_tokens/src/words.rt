@@ -14,7 +14,7 @@ pub enum Word {
         item: Bytes,
         contention: u64,
     },
-    /// A token that a compaction row opened under another field's token.
+    /// A token that a row for compaction opened to under another token than its field's.
     Stray {
         token: [u8; 32],
     },
