@@ -6,7 +6,7 @@ use Rattle.std.specs.List.{list_all}
 use Rattle.std.specs.Ordering.{is_lt, ordering_reverse}
 use Rattle.serde_json.specs.Data.{Data, Members, no_members, member, put}
 use Rattle.serde_json.specs.View.{items_of}
-use Rattle.qe_document.specs.declared.value.Plain.{Plain}
+use Rattle.qe_value.specs.declared.value.Plain.{Plain}
 use Rattle.qe_bson.specs.JsonReading.{then, value_at, items_at, fields_at}
 use Rattle.qe_bson.specs.JsonRound.{all_true, typed, ordered, most, levels}
 use Rattle.qe_bson.specs.JsonWriting.{all_of, json_of}

@@ -5,7 +5,7 @@ use Rattle.std.specs.Prelude.{◌&&◌, is_some}
 use Rattle.serde_json.specs.Data.{Data, null, boolean, number, string, array, object, Items, no_items, item, Members, no_members, member, depth, items_depth, members_depth}
 use Rattle.serde_json.specs.Find.{as_i64, as_object}
 use Rattle.std.specs.Prelude.{ℤ}
-use Rattle.qe_document.specs.declared.value.Plain.{Plain}
+use Rattle.qe_value.specs.declared.value.Plain.{Plain}
 use Rattle.qe_bson.specs.declared.extended_json.fault.JsonFault.{JsonFault}
 use Rattle.qe_bson.specs.declared.extended_json.fault.JsonFault.TheVariants.{TooDeep}
 use Rattle.qe_bson.specs.declared.extended_json.forms.Form.{Form}

@@ -9,12 +9,12 @@ use Rattle.serde_json.specs.Find.{of_integer}
 use Rattle.serde_json.specs.Written.{has_float, items_have_float, members_have_float}
 use Rattle.serde_json.specs.View.{view, items_of}
 use Rattle.serde_json.specs.declared.value.Value.{Value as Json}
-use Rattle.qe_document.specs.declared.value.Plain.{Plain, map-Plain}
-use Rattle.qe_document.specs.declared.value.Plain.TheOpen.{Plain-F}
-use Rattle.qe_document.specs.declared.value.Plain.TheFolds.{ind-Plain, fold-roll-Plain}
+use Rattle.qe_value.specs.declared.value.Plain.{Plain, map-Plain}
+use Rattle.qe_value.specs.declared.value.Plain.TheOpen.{Plain-F}
+use Rattle.qe_value.specs.declared.value.Plain.TheFolds.{ind-Plain, fold-roll-Plain}
 use Rattle.qe_bson.specs.declared.extended_json.fault.JsonFault.{JsonFault}
 use Rattle.qe_document.specs.Views.{plain}
-use Rattle.qe_document.specs.declared.value.Value.{Value}
+use Rattle.qe_value.specs.declared.value.Value.{Value}
 use Rattle.qe_base.specs.Answers.{Answers}
 use Rattle.qe_bson.specs.JsonFaults.{json_refusal}
 use Rattle.qe_bson.specs.JsonReading.{then}

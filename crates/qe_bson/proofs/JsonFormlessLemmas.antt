@@ -2,9 +2,9 @@
 use Rattle.std.proofs.Common.{◌≡◌, ℕ, List, [], ◌∷◌, map, Bool, true, false, ◌||◌, Result, Ok, Err, refl, sym, ap, ◌∙◌, subst}
 use Rattle.std.specs.Prelude.{◌↔◌}
 use Rattle.serde_json.specs.Data.{Data, Members, no_members, put}
-use Rattle.qe_document.specs.declared.value.Plain.{Plain, roll-Plain, map-Plain}
-use Rattle.qe_document.specs.declared.value.Plain.TheFolds.{ind-Plain, fold-roll-Plain}
-use Rattle.qe_document.specs.declared.value.Plain.TheOpen.{Plain-F}
+use Rattle.qe_value.specs.declared.value.Plain.{Plain, roll-Plain, map-Plain}
+use Rattle.qe_value.specs.declared.value.Plain.TheFolds.{ind-Plain, fold-roll-Plain}
+use Rattle.qe_value.specs.declared.value.Plain.TheOpen.{Plain-F}
 use Rattle.qe_bson.specs.declared.extended_json.fault.JsonFault.{JsonFault}
 use Rattle.qe_bson.specs.declared.extended_json.fault.JsonFault.TheVariants.{Unprintable}
 use Rattle.qe_bson.specs.JsonReading.{then}

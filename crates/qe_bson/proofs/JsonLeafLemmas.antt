@@ -15,7 +15,7 @@ use Rattle.base64.specs.GeneralPurpose.{IsBytes, decode_of, encode_of}
 use Rattle.hex.proofs.HexLemmas.{decode_sized-encode_lower}
 use Rattle.serde_json.specs.Data.{number}
 use Rattle.serde_json.specs.Find.{of_integer}
-use Rattle.qe_document.specs.declared.value.Plain.TheVariants as p
+use Rattle.qe_value.specs.declared.value.Plain.TheVariants as p
 use Rattle.qe_bson.specs.JsonForms.{fits, whole_in, binary_at}
 use Rattle.qe_bson.specs.JsonReading.{value_at}
 use Rattle.qe_base.specs.Bytes.{are_bytes}

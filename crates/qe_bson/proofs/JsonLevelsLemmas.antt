@@ -13,7 +13,7 @@ use Rattle.base64.specs.Engines.{standard}
 use Rattle.base64.specs.GeneralPurpose.{decode_of}
 use Rattle.hex.specs.Hex.{decode_sized}
 use Rattle.std.specs.Result.{result_ok}
-use Rattle.qe_document.specs.declared.value.Plain.{Plain}
+use Rattle.qe_value.specs.declared.value.Plain.{Plain}
 use Rattle.qe_bson.specs.declared.extended_json.fault.JsonFault.TheVariants.{TooDeep}
 use Rattle.qe_bson.specs.declared.extended_json.forms.Form.{Form}
 use Rattle.qe_bson.specs.declared.extended_json.forms.Form.TheVariants as form

@@ -5,10 +5,10 @@ use Rattle.std.proofs.lemmas.List.{drop_all}
 use Rattle.std.specs.Prelude.{slice_get}
 use Rattle.serde_json.specs.Data.{Data, Members, put}
 use Rattle.qe_document.specs.Views.{plain, size_of, size_of_items, size_of_fields}
-use Rattle.qe_document.specs.declared.value.Plain.{Plain, the_lemmas}
-use Rattle.qe_document.specs.declared.value.Plain.TheVariants as p
-use Rattle.qe_document.specs.declared.value.Value.{Value}
-use Rattle.qe_document.specs.declared.value.Value.TheVariants as v
+use Rattle.qe_value.specs.declared.value.Plain.{Plain, the_lemmas}
+use Rattle.qe_value.specs.declared.value.Plain.TheVariants as p
+use Rattle.qe_value.specs.declared.value.Value.{Value}
+use Rattle.qe_value.specs.declared.value.Value.TheVariants as v
 use Rattle.qe_bson.specs.declared.extended_json.fault.JsonFault.{JsonFault}
 use Rattle.qe_bson.specs.JsonReading.{then}
 use Rattle.qe_bson.specs.JsonWriting.{all_of, members_from, json_array, json_object, json_step, json_of, json_field, opened}

@@ -6,9 +6,9 @@ use Rattle.std.specs.Ordering.{nat_cmp, is_lt}
 use Rattle.std.specs.Prelude.{is_some}
 use Rattle.serde_json.specs.Data.{Data, array, object, Members, no_members, member, put}
 use Rattle.serde_json.specs.View.{items_of}
-use Rattle.qe_document.specs.declared.value.Plain.{Plain}
-use Rattle.qe_document.specs.declared.value.Plain.TheOpen.{Plain-F}
-use Rattle.qe_document.specs.declared.value.Plain.TheVariants as p
+use Rattle.qe_value.specs.declared.value.Plain.{Plain}
+use Rattle.qe_value.specs.declared.value.Plain.TheOpen.{Plain-F}
+use Rattle.qe_value.specs.declared.value.Plain.TheVariants as p
 use Rattle.qe_bson.specs.JsonForms.{form_named, form_of}
 use Rattle.qe_bson.specs.JsonReading.{then, in_array, in_document, form_or, value_at, fields_at}
 use Rattle.qe_bson.specs.JsonRound.{all_true, typed, rising, like_a_form, ordered, ordered_step, most, levels}

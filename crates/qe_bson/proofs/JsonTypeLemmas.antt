@@ -6,10 +6,10 @@ use Rattle.std.specs.Prelude.{◌&&◌, nat_lt, slice_get, IfOk, OnOk}
 use Rattle.serde_json.specs.View.{view}
 use Rattle.serde_json.specs.declared.value.Value.{Value as Json}
 use Rattle.qe_document.specs.Views.{plain}
-use Rattle.qe_document.specs.declared.value.Plain.{Plain, the_lemmas}
-use Rattle.qe_document.specs.declared.value.Plain.TheVariants as p
-use Rattle.qe_document.specs.declared.value.Value.{Value}
-use Rattle.qe_document.specs.declared.value.Value.TheVariants as v
+use Rattle.qe_value.specs.declared.value.Plain.{Plain, the_lemmas}
+use Rattle.qe_value.specs.declared.value.Plain.TheVariants as p
+use Rattle.qe_value.specs.declared.value.Value.{Value}
+use Rattle.qe_value.specs.declared.value.Value.TheVariants as v
 use Rattle.qe_bson.specs.declared.extended_json.fault.JsonFault.{JsonFault}
 use Rattle.qe_base.specs.Answers.{Answers}
 use Rattle.qe_bson.specs.JsonFaults.{json_refusal}

@@ -4,10 +4,10 @@ use Rattle.std.proofs.lemmas.Bool.{ltb-true, eqb-true}
 use Rattle.std.specs.Prelude.{nat_lt}
 use Rattle.serde_json.specs.Data.{Data, null, boolean, number, string}
 use Rattle.serde_json.specs.Find.{of_integer}
-use Rattle.qe_document.specs.declared.value.Plain.{Plain, roll-Plain, map-Plain}
-use Rattle.qe_document.specs.declared.value.Plain.TheFolds.{ind-Plain, fold-roll-Plain}
-use Rattle.qe_document.specs.declared.value.Plain.TheOpen.{Plain-F}
-use Rattle.qe_document.specs.declared.value.Plain.TheVariants as p
+use Rattle.qe_value.specs.declared.value.Plain.{Plain, roll-Plain, map-Plain}
+use Rattle.qe_value.specs.declared.value.Plain.TheFolds.{ind-Plain, fold-roll-Plain}
+use Rattle.qe_value.specs.declared.value.Plain.TheOpen.{Plain-F}
+use Rattle.qe_value.specs.declared.value.Plain.TheVariants as p
 use Rattle.qe_bson.specs.declared.extended_json.fault.JsonFault.{JsonFault}
 use Rattle.qe_bson.specs.JsonReading.{value_at}
 use Rattle.qe_base.specs.Bytes.{are_bytes}

@@ -1,9 +1,9 @@
 -- A whole run of a reader gives what reading gives of the bytes as one.
 use Rattle.std.proofs.Common.{◌≡◌, ℕ, ◌+◌, ◌≤◌, List, [], ◌∷◌, ◌++◌, length, drop, Option, None, Some, Ok, Err, refl, sym, ap, subst, ◌∙◌, append_assoc}
 use Rattle.std.proofs.lemmas.List.{append-nil, drop-append-le, drop_at, drop-drop}
-use Rattle.qe_document.specs.declared.fault.BsonFault.{BsonFault}
-use Rattle.qe_document.specs.declared.fault.BsonFault.TheVariants.{At, NoMemory}
-use Rattle.qe_document.specs.declared.fault.BsonKind.TheVariants.{Short}
+use Rattle.qe_value.specs.declared.fault.BsonFault.{BsonFault}
+use Rattle.qe_value.specs.declared.fault.BsonFault.TheVariants.{At, NoMemory}
+use Rattle.qe_value.specs.declared.fault.BsonKind.TheVariants.{Short}
 use Rattle.qe_document.specs.Reading.{document_at}
 use Rattle.qe_bson.specs.Stream.{IsShort, Feeds}
 use Rattle.qe_bson.specs.Runs.{Fields, State, Feeds_piece, Unless, Runs, joined, Begin_with, Ends}

@@ -3,12 +3,12 @@ use Rattle.std.proofs.Common.{◌≡◌, ℕ, ◌-◌, ◌^◌, ◌<◌, ◌≤�
 use Rattle.std.specs.Int.{w32, from_le_bytes}
 use Rattle.std.proofs.lemmas.Bool.{cases_lt, cases_Bool, ltb-false, le-ltb}
 use Rattle.std.proofs.lemmas.List.{take-append-le, drop-append-le, length-append, length-drop}
-use Rattle.qe_document.specs.declared.fault.BsonFault.{BsonFault}
-use Rattle.qe_document.specs.declared.value.Plain.{Plain}
+use Rattle.qe_value.specs.declared.fault.BsonFault.{BsonFault}
+use Rattle.qe_value.specs.declared.value.Plain.{Plain}
 use Rattle.qe_document.specs.Reading.{length_at, document_at}
 use Rattle.qe_document.specs.Spelling.{Begins}
 use Rattle.qe_bson.specs.Stream.{IsShort, IsWaiting, Takes}
-use Rattle.qe_document.proofs.DocumentLemmas.{begins_again}
+use Rattle.qe_value.proofs.DocumentLemmas.{begins_again}
 
 pub short_nothing : IsShort []
 unfolding document_at length_at

@@ -13,8 +13,8 @@ use Rattle.serde_json.specs.Events.{members_len}
 use Rattle.serde_json.specs.Find.{as_i64, as_str, as_object, get}
 use Rattle.serde_json.specs.View.{view}
 use Rattle.serde_json.specs.declared.value.Value.{Value}
-use Rattle.qe_document.specs.declared.value.Plain.{Plain}
-use Rattle.qe_document.specs.declared.value.Plain.TheVariants as p
+use Rattle.qe_value.specs.declared.value.Plain.{Plain}
+use Rattle.qe_value.specs.declared.value.Plain.TheVariants as p
 use Rattle.qe_bson.specs.declared.extended_json.fault.JsonFault.{JsonFault}
 use Rattle.qe_bson.specs.declared.extended_json.fault.JsonFault.TheVariants.{BadNumber, BadForm, TooDeep}
 use Rattle.qe_bson.specs.declared.extended_json.forms.Form.{Form}

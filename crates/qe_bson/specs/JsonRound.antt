@@ -4,10 +4,10 @@ use Rattle.std.specs.Cmp.Lexicographic.{slice_cmp}
 use Rattle.std.specs.List.{list_all}
 use Rattle.std.specs.Ordering.{nat_cmp, is_lt}
 use Rattle.qe_base.specs.Bytes.{are_bytes}
-use Rattle.qe_document.specs.declared.value.Plain.{Plain, fold-Plain}
-use Rattle.qe_document.specs.declared.value.Plain.TheOpen.{Plain-F}
-use Rattle.qe_document.specs.declared.value.Value.{Value}
-use Rattle.qe_document.specs.declared.value.Value.TheVariants as v
+use Rattle.qe_value.specs.declared.value.Plain.{Plain, fold-Plain}
+use Rattle.qe_value.specs.declared.value.Plain.TheOpen.{Plain-F}
+use Rattle.qe_value.specs.declared.value.Value.{Value}
+use Rattle.qe_value.specs.declared.value.Value.TheVariants as v
 use Rattle.qe_bson.specs.JsonForms.{fits, form_named}
 
 abbrev pub all_true : List Bool → Bool

@@ -7,10 +7,10 @@ use Rattle.hex.specs.Hex.{encode_lower}
 use Rattle.serde_json.specs.Data.{Data, null, boolean, number, string, array, object, Members, no_members, member, put}
 use Rattle.serde_json.specs.Find.{of_integer}
 use Rattle.serde_json.specs.View.{items_of}
-use Rattle.qe_document.specs.declared.value.Plain.{Plain, fold-Plain}
-use Rattle.qe_document.specs.declared.value.Plain.TheOpen.{Plain-F}
-use Rattle.qe_document.specs.declared.value.Value.{Value}
-use Rattle.qe_document.specs.declared.value.Value.TheVariants as v
+use Rattle.qe_value.specs.declared.value.Plain.{Plain, fold-Plain}
+use Rattle.qe_value.specs.declared.value.Plain.TheOpen.{Plain-F}
+use Rattle.qe_value.specs.declared.value.Value.{Value}
+use Rattle.qe_value.specs.declared.value.Value.TheVariants as v
 use Rattle.qe_bson.specs.declared.extended_json.fault.JsonFault.{JsonFault}
 use Rattle.qe_bson.specs.declared.extended_json.fault.JsonFault.TheVariants.{Unprintable}
 use Rattle.qe_bson.specs.JsonReading.{then}

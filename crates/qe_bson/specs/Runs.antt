@@ -1,9 +1,9 @@
 -- A stream that comes in pieces, over a whole run of a reader, and over the bytes as one.
 use Rattle.std.specs.Prelude.{◌≡◌, ◌≢◌, ℕ, List, [], ◌∷◌, ◌++◌, drop, Option, None, Some, Ok, Err}
-use Rattle.qe_document.specs.declared.fault.BsonFault.{BsonFault}
-use Rattle.qe_document.specs.declared.fault.BsonFault.TheVariants.{At, NoMemory}
-use Rattle.qe_document.specs.declared.fault.BsonKind.TheVariants.{Short}
-use Rattle.qe_document.specs.declared.value.Plain.{Plain}
+use Rattle.qe_value.specs.declared.fault.BsonFault.{BsonFault}
+use Rattle.qe_value.specs.declared.fault.BsonFault.TheVariants.{At, NoMemory}
+use Rattle.qe_value.specs.declared.fault.BsonKind.TheVariants.{Short}
+use Rattle.qe_value.specs.declared.value.Plain.{Plain}
 use Rattle.qe_document.specs.Reading.{document_at}
 use Rattle.qe_bson.specs.Stream.{IsShort, Feeds}
 

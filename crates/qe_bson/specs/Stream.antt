@@ -1,9 +1,9 @@
 -- A document that comes in pieces.
 use Rattle.std.specs.Prelude.{◌≡◌, ◌≢◌, ℕ, ◌+◌, ◌≤◌, List, [], ◌++◌, length, Option, None, Some, Result, Ok, Err}
-use Rattle.qe_document.specs.declared.fault.BsonFault.{BsonFault}
-use Rattle.qe_document.specs.declared.fault.BsonFault.TheVariants.{At, NoMemory}
-use Rattle.qe_document.specs.declared.fault.BsonKind.TheVariants.{Short}
-use Rattle.qe_document.specs.declared.value.Plain.{Plain}
+use Rattle.qe_value.specs.declared.fault.BsonFault.{BsonFault}
+use Rattle.qe_value.specs.declared.fault.BsonFault.TheVariants.{At, NoMemory}
+use Rattle.qe_value.specs.declared.fault.BsonKind.TheVariants.{Short}
+use Rattle.qe_value.specs.declared.value.Plain.{Plain}
 use Rattle.qe_document.specs.Reading.{document_at}
 
 -- no whole document, and no fault that more bytes could not mend

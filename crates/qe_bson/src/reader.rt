@@ -1,9 +1,9 @@
 //! Documents that come in pieces.
 
 ghost use Rattle.std.specs.Prelude.{◌≡◌, ℕ, List, [], ◌++◌, Option, None, IsTrue, ◌↔◌};
-ghost use Rattle.qe_document.specs.declared.fault.BsonKind.TheVariants.{Short};
-ghost use Rattle.qe_document.specs.declared.fault.BsonFault.{BsonFault};
-ghost use Rattle.qe_document.specs.declared.fault.BsonFault.TheVariants.{At};
+ghost use Rattle.qe_value.specs.declared.fault.BsonKind.TheVariants.{Short};
+ghost use Rattle.qe_value.specs.declared.fault.BsonFault.{BsonFault};
+ghost use Rattle.qe_value.specs.declared.fault.BsonFault.TheVariants.{At};
 ghost use Rattle.qe_document.specs.Reading.{document_at};
 ghost use Rattle.qe_bson.specs.Runs.{Fields, State, Runs, joined, Begin_with, Ends};
 ghost use Rattle.qe_bson.specs.Stream.{IsShort, Takes, Feeds, Finishes};
@@ -22,11 +22,11 @@ pub struct Reader {
 
 impl Model for Reader {
     ghost use Rattle.std.specs.Prelude.{ℕ, List, Option};
-    ghost use Rattle.qe_document.specs.declared.fault.BsonFault.{BsonFault};
+    ghost use Rattle.qe_value.specs.declared.fault.BsonFault.{BsonFault};
 
     ghost Value = { List ℕ × Option BsonFault };
 
-    ghost use Rattle.qe_document.specs.contracts.fault.BsonFault as e;
+    ghost use Rattle.qe_value.specs.contracts.fault.BsonFault as e;
     ghost use Rattle.std.specs.Coded.{codes};
 
     ghost coded = { Prim.hlevel (codes, e.the_row.coded) };

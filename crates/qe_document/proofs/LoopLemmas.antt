@@ -1,11 +1,11 @@
 -- Reading elements one after the other, as a loop of so many turns does.
 use Rattle.std.proofs.Common.{◌≡◌, ℕ, suc, ◌+◌, ◌-◌, ◌<◌, ◌≤◌, List, [], ◌∷◌, ◌++◌, Option, None, Some, Result, Ok, Err, refl, sym, ◌∙◌, arith}
-use Rattle.qe_document.specs.declared.fault.BsonFault.{BsonFault}
-use Rattle.qe_document.specs.declared.fault.BsonFault.TheVariants.{At, NoMemory}
-use Rattle.qe_document.specs.declared.fault.BsonKind.TheVariants.{NoTerminator}
+use Rattle.qe_value.specs.declared.fault.BsonFault.{BsonFault}
+use Rattle.qe_value.specs.declared.fault.BsonFault.TheVariants.{At, NoMemory}
+use Rattle.qe_value.specs.declared.fault.BsonKind.TheVariants.{NoTerminator}
 use Rattle.qe_base.specs.Answers.{Refuses}
-use Rattle.qe_document.specs.Faults.{bson_refusal}
-use Rattle.qe_document.specs.Reading.{all_at}
+use Rattle.qe_value.specs.Faults.{bson_refusal}
+use Rattle.qe_value.specs.Reading.{all_at}
 
 module _ {A : Type 0} (one : List A → ℕ → List ℕ → Result (Option (A × List ℕ)) BsonFault) (end n i : ℕ) (before : List A) (rest : List ℕ) (total : Result (List A) BsonFault)
     (so_far : all_at one (n - i) before end rest ≡ total) where

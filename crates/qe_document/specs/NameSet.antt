@@ -5,8 +5,8 @@ use Rattle.std.specs.BTreeSet as set
 use Rattle.std.specs.BTreeSet.{BTreeSet}
 use Rattle.std.specs.Borrow.{Bor}
 use Rattle.std.specs.Cmp.Lexicographic.{slice_cmp}
-use Rattle.qe_document.specs.declared.value.Plain.{Plain}
-use Rattle.qe_document.specs.Names.{is_named}
+use Rattle.qe_value.specs.declared.value.Plain.{Plain}
+use Rattle.qe_value.specs.Names.{is_named}
 
 -- the set has the fields' names
 abbrev pub Knows : BTreeSet (Bor (List ℕ)) → List (List ℕ × Plain) → Type 0

@@ -3,14 +3,13 @@
 
 ghost use Rattle.std.specs.Prelude.{◌≡◌, ◌+◌, ◌-◌, ◌<◌, ◌≤◌, true, false, length, IfOk, IfSome, IfNone, option_map};
 ghost use Rattle.std.specs.Str.{is_utf8};
-ghost use Rattle.qe_document.specs.declared.fault.BsonFault.TheVariants.{At};
+ghost use Rattle.qe_value.specs.declared.fault.BsonFault.TheVariants.{At};
 ghost use Rattle.qe_base.specs.Answers.{Answers};
-ghost use Rattle.qe_document.specs.Faults.{bson_refusal};
-ghost use Rattle.qe_document.specs.Reading.{begins_at, split_zero, name_at, fixed_at, count_at, string_at, binary_at, bool_at, frame_at};
+ghost use Rattle.qe_value.specs.Faults.{bson_refusal};
+ghost use Rattle.qe_value.specs.Reading.{begins_at, split_zero, name_at, fixed_at, count_at, string_at, binary_at, bool_at, frame_at};
 
-use crate::element_type::ElementType;
-use crate::fault::{BsonFault, BsonKind};
 use qe_base::{Bytes, Text};
+use qe_value::{BsonFault, BsonKind, ElementType};
 use std::alloc::Global;
 
 /// A fault at the first byte that is left.
@@ -48,7 +47,7 @@ pub(crate) fn begins(until: usize, bytes: &[u8]) -> Result<Option<(ElementType, 
 }
 
 /// So many bytes, and what follows them.
-#[tactic(auto, unfolding(crate::specs::Reading::fixed_at))]
+#[tactic(auto, unfolding(qe_value::specs::Reading::fixed_at))]
 pub(crate) fn fixed<const N: usize>(
     until: usize,
     bytes: &[u8],
@@ -65,7 +64,7 @@ pub(crate) fn fixed<const N: usize>(
 }
 
 /// The int32 length of a value, which is at least `least` and counts what stands before the document's last byte.
-#[tactic(auto, unfolding(crate::specs::Reading::count_at))]
+#[tactic(auto, unfolding(qe_value::specs::Reading::count_at))]
 pub(crate) fn count(
     until: usize,
     bytes: &[u8],
@@ -113,7 +112,7 @@ fn first_zero(bytes: &[u8]) -> Option<(&[u8], &[u8])>
 }
 
 /// An element's name.
-#[tactic(auto, unfolding(crate::specs::Reading::name_at))]
+#[tactic(auto, unfolding(qe_value::specs::Reading::name_at))]
 pub(crate) fn name(until: usize, bytes: &[u8]) -> Result<(&str, &[u8]), BsonFault>
     ensures { Answers (λ x. (x.0.now, x.1.now)) bson_refusal result (name_at until bytes.now) }
 {
@@ -127,7 +126,7 @@ pub(crate) fn name(until: usize, bytes: &[u8]) -> Result<(&str, &[u8]), BsonFaul
 }
 
 /// A string.
-#[tactic(auto, unfolding(crate::specs::Reading::string_at))]
+#[tactic(auto, unfolding(qe_value::specs::Reading::string_at))]
 pub(crate) fn string(alloc: Global, until: usize, bytes: &[u8]) -> Result<(Text, &[u8]), BsonFault>
     ensures { Answers (λ x. (x.0, x.1.now)) bson_refusal result (string_at until bytes.now) }
 {
@@ -144,7 +143,7 @@ pub(crate) fn string(alloc: Global, until: usize, bytes: &[u8]) -> Result<(Text,
 }
 
 /// The subtype and the bytes of a binary.
-#[tactic(auto, unfolding(crate::specs::Reading::binary_at))]
+#[tactic(auto, unfolding(qe_value::specs::Reading::binary_at))]
 pub(crate) fn binary(
     alloc: Global,
     until: usize,
@@ -160,7 +159,7 @@ pub(crate) fn binary(
 }
 
 /// A bool.
-#[tactic(auto, unfolding(crate::specs::Reading::bool_at))]
+#[tactic(auto, unfolding(qe_value::specs::Reading::bool_at))]
 pub(crate) fn boolean(until: usize, bytes: &[u8]) -> Result<(bool, &[u8]), BsonFault>
     ensures { Answers (λ x. (x.0, x.1.now)) bson_refusal result (bool_at until bytes.now) }
 {
@@ -172,7 +171,7 @@ pub(crate) fn boolean(until: usize, bytes: &[u8]) -> Result<(bool, &[u8]), BsonF
 }
 
 /// The bytes of an inner document behind its length, and what follows it.
-#[tactic(auto, unfolding(crate::specs::Reading::frame_at))]
+#[tactic(auto, unfolding(qe_value::specs::Reading::frame_at))]
 pub(crate) fn frame(until: usize, bytes: &[u8]) -> Result<(&[u8], &[u8]), BsonFault>
     ensures { Answers (λ x. (x.0.now, x.1.now)) bson_refusal result (frame_at until bytes.now) }
 {

@@ -1,13 +1,13 @@
 //! Whether a name stands in a document before: a scan of the first fields, and a set of the later ones' names.
 
 ghost use Rattle.std.specs.Prelude.{◌≡◌, ℕ, List, ◌∷◌, ◌++◌, [], true, not, drop, map, IfOk};
-ghost use Rattle.qe_document.specs.Names.{is_named};
+ghost use Rattle.qe_value.specs.Names.{is_named};
 ghost use Rattle.qe_document.specs.NameSet.{Knows};
-ghost use Rattle.qe_document.specs.Views.{field_view};
-ghost use Rattle.qe_document.specs.declared.value.Plain.{Plain};
+ghost use Rattle.qe_value.specs.Views.{field_view};
+ghost use Rattle.qe_value.specs.declared.value.Plain.{Plain};
 
-use crate::value::{Value, has_name};
 use qe_base::Text;
+use qe_value::{Value, has_name};
 use std::alloc::AllocError;
 use std::collections::BTreeSet;
 

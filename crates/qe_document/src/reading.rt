@@ -1,24 +1,23 @@
 //! Reading documents.
 
 ghost use Rattle.std.specs.Prelude.{◌≡◌, ◌≢◌, ℕ, ◌-◌, ◌≤◌, ◌<◌, [], ◌∷◌, ◌++◌, List, length, map, drop, option_map, Ok, bytes_eq, decimal, false, IfOk, IfSome};
-ghost use Rattle.qe_document.specs.Names.{is_named};
+ghost use Rattle.qe_value.specs.Names.{is_named};
 ghost use Rattle.qe_document.specs.NameSet.{Knows};
 ghost use Rattle.qe_base.specs.Answers.{Answers};
-ghost use Rattle.qe_document.specs.Faults.{bson_refusal};
-ghost use Rattle.qe_document.specs.Reading.{value_at, field_at, item_at, all_at, fields_in, items_in, length_at, document_at, typed_alone, alone_at};
-ghost use Rattle.qe_document.specs.Spelling.{Begins, IsAlone};
-ghost use Rattle.qe_document.specs.Views.{plain, field_view, taken_value, taken_field};
-ghost use Rattle.qe_document.specs.declared.element_type.ElementType.TheVariants.{Doc, Array};
-ghost use Rattle.qe_document.specs.declared.value.Plain.{Plain};
+ghost use Rattle.qe_value.specs.Faults.{bson_refusal};
+ghost use Rattle.qe_value.specs.Reading.{value_at, field_at, item_at, all_at, fields_in, items_in, length_at, document_at, typed_alone, alone_at};
+ghost use Rattle.qe_value.specs.Spelling.{Begins, IsAlone};
+ghost use Rattle.qe_value.specs.Views.{plain, field_view, taken_value, taken_field};
+ghost use Rattle.qe_value.specs.declared.element_type.ElementType.TheVariants.{Doc, Array};
+ghost use Rattle.qe_value.specs.declared.value.Plain.{Plain};
 
 use crate::element::{at, begins, binary, boolean, fixed, frame, name, string};
-use crate::element_type::ElementType;
-use crate::fault::{BsonFault, BsonKind};
-use crate::limits::{MOST_BYTES, MOST_LEVELS};
 use crate::names::is_new;
-use crate::value::{Document, Value, Values};
 use itoa::Buffer;
 use qe_base::Text;
+use qe_value::{
+    BsonFault, BsonKind, Document, ElementType, MOST_BYTES, MOST_LEVELS, Value, Values,
+};
 use std::alloc::Global;
 use std::collections::BTreeSet;
 
@@ -107,7 +106,7 @@ fn value_of(
 }
 
 #[cycle(read)]
-#[tactic(auto, unfolding(crate::specs::Reading::fields_in))]
+#[tactic(auto, unfolding(qe_value::specs::Reading::fields_in))]
 fn document_of(alloc: Global, until: usize, bytes: &[u8], room: u32) -> Result<Document, BsonFault>
     ensures { Answers (λ d. d) bson_refusal result (fields_in room until bytes.now) }
 {
@@ -121,7 +120,7 @@ fn document_of(alloc: Global, until: usize, bytes: &[u8], room: u32) -> Result<D
 }
 
 #[cycle(read)]
-#[tactic(auto, unfolding(crate::specs::Reading::items_in))]
+#[tactic(auto, unfolding(qe_value::specs::Reading::items_in))]
 fn array_of(alloc: Global, until: usize, bytes: &[u8], room: u32) -> Result<Values, BsonFault>
     ensures { Answers (λ vs. vs) bson_refusal result (items_in room until bytes.now) }
 {
@@ -144,7 +143,7 @@ fn fields_of(alloc: Global, until: usize, bytes: &[u8], room: u32) -> Result<Doc
     let mut rest = bytes;
     for _ in 0..bytes.len() {
         match field_of(alloc, &fields, &mut seen, until, rest, room)? {
-            None => return Ok(Document { fields }),
+            None => return Ok(Document::from_fields(fields)),
             Some((field, after)) => {
                 fields.push(field)?;
                 rest = after;
@@ -162,11 +161,11 @@ fn fields_of(alloc: Global, until: usize, bytes: &[u8], room: u32) -> Result<Doc
 fn items_of(alloc: Global, until: usize, bytes: &[u8], room: u32) -> Result<Values, BsonFault>
     ensures { Answers (λ vs. vs) bson_refusal result (all_at (item_at (value_at room)) (length bytes.now) [] until bytes.now) }
 {
-    let mut items = Vec::new(alloc);
+    let mut items = Values::new(alloc);
     let mut rest = bytes;
     for _ in 0..bytes.len() {
         match item_of(alloc, items.len(), until, rest, room)? {
-            None => return Ok(Values { items }),
+            None => return Ok(items),
             Some((item, after)) => {
                 items.push(item)?;
                 rest = after;
@@ -181,7 +180,7 @@ fn items_of(alloc: Global, until: usize, bytes: &[u8], room: u32) -> Result<Valu
 
 // The next field of a document that has these before it.
 #[cycle(read)]
-#[tactic(auto, unfolding(crate::specs::Reading::field_at))]
+#[tactic(auto, unfolding(qe_value::specs::Reading::field_at))]
 fn field_of<'a>(
     alloc: Global,
     before: &[(Text, Value)],
@@ -210,7 +209,7 @@ fn field_of<'a>(
 
 // The next item of an array that has so many before it.
 #[cycle(read)]
-#[tactic(auto, unfolding(crate::specs::Reading::item_at))]
+#[tactic(auto, unfolding(qe_value::specs::Reading::item_at))]
 fn item_of(
     alloc: Global,
     count: usize,
@@ -242,7 +241,7 @@ fn is_index(name: &str, n: usize) -> bool
 }
 
 // The outermost document's length.
-#[tactic(auto, unfolding(crate::specs::Reading::length_at))]
+#[tactic(auto, unfolding(qe_value::specs::Reading::length_at))]
 fn outer_length(bytes: &[u8]) -> Result<usize, BsonFault>
     ensures exact { Answers (λ n. n) bson_refusal result (length_at bytes.now) }
     ensures within { IfOk result (λ n. (5 ≤ n) × (n ≤ length bytes.now)) }
@@ -277,7 +276,7 @@ fn outer_length(bytes: &[u8]) -> Result<usize, BsonFault>
 }
 
 // The document that begins the bytes, and its length.
-#[tactic(auto, unfolding(crate::specs::Reading::document_at))]
+#[tactic(auto, unfolding(qe_value::specs::Reading::document_at))]
 fn document(alloc: Global, bytes: &[u8]) -> Result<(Document, usize), BsonFault>
     ensures { Answers (λ x. x) bson_refusal result (document_at bytes.now) }
 {
@@ -302,7 +301,7 @@ pub fn decode(alloc: Global, bytes: &[u8]) -> Result<(Document, usize), BsonFaul
 }
 
 // The value that is all that stands before the last byte.
-#[tactic(auto, unfolding(crate::specs::Reading::typed_alone))]
+#[tactic(auto, unfolding(qe_value::specs::Reading::typed_alone))]
 fn value_alone(alloc: Global, kind: ElementType, bytes: &[u8]) -> Result<Value, BsonFault>
     ensures { Answers plain bson_refusal result (typed_alone kind bytes.now) }
 {

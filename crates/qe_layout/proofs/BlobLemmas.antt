@@ -1,12 +1,12 @@
 -- Blobs, both ways: a document is read of a blob exactly where the blob is one of it.
 use Rattle.std.proofs.Common.{◌≡◌, ℕ, suc, ◌-◌, ◌==◌, Bool, true, false, List, [], ◌∷◌, length, refl, ap, sym, subst, ◌∙◌, if◌then◌else◌, Result, Ok, Err, eq-eqb}
 use Rattle.std.proofs.lemmas.Bool.{cond-true, eqb-true}
-use Rattle.qe_document.specs.declared.fault.BsonFault.{BsonFault}
+use Rattle.qe_value.specs.declared.fault.BsonFault.{BsonFault}
 use Rattle.qe_document.specs.Names.{Distinct}
 use Rattle.qe_document.specs.Reading.{document_at}
 use Rattle.qe_document.specs.Spelling.{Begins, FieldsFit}
 use Rattle.qe_base.specs.Bytes.{AreBytes}
-use Rattle.qe_document.proofs.DocumentLemmas.{document_takes, begins_again}
+use Rattle.qe_value.proofs.DocumentLemmas.{document_takes, begins_again}
 use Rattle.qe_layout.specs.declared.malformed.Kind.TheVariants.{BlobSubtype, Trailing}
 use Rattle.qe_layout.specs.Refusal.{Refusal, wrong, bind}
 use Rattle.qe_layout.specs.Layouts.{Element}

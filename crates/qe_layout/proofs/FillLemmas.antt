@@ -6,7 +6,7 @@ use Rattle.std.proofs.lemmas.List.{length-replicate}
 use Rattle.std.proofs.lemmas.Bool.{cases_Bool, cond-true, cond-false}
 use Rattle.std.proofs.lemmas.Slice.Eq.{bytes_eq-Decides}
 use Rattle.qe_document.specs.Names.{Distinct, is_named, value_named}
-use Rattle.qe_document.specs.declared.value.Plain.{Plain}
+use Rattle.qe_value.specs.declared.value.Plain.{Plain}
 use Rattle.qe_layout.specs.declared.malformed.Kind.{Kind}
 use Rattle.qe_layout.specs.Refusal.{Refusal, bind, map_read}
 use Rattle.qe_layout.specs.Layouts.{Element, Reader, Rows, checked, lack, complete, part_in, slot, slots_of, arranged, place_from, with_slot, filled_one, filled, complete_in}

@@ -3,7 +3,7 @@ use Rattle.std.proofs.Common.{◌≡◌, ℕ, ◌+◌, List, [], ◌∷◌, ◌+
 use Rattle.std.specs.Prelude.{decimal, IsErr}
 use Rattle.std.proofs.lemmas.List.{append-nil}
 use Rattle.qe_base.specs.Answers.{Refuses}
-use Rattle.qe_document.specs.declared.value.Plain.{Plain}
+use Rattle.qe_value.specs.declared.value.Plain.{Plain}
 use Rattle.qe_layout.specs.declared.malformed.Malformed.{Malformed}
 use Rattle.qe_layout.specs.declared.malformed.Malformed.TheVariants.{At, NoMemory}
 use Rattle.qe_layout.specs.Refusal.{Refusal, refusal_of, Reads, bind, map_read}

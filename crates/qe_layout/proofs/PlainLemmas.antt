@@ -1,9 +1,9 @@
 -- Values that are documents and arrays, as trees.
 use Rattle.std.proofs.Common.{◌≡◌, ap}
-use Rattle.qe_document.specs.declared.value.Value.{Value}
-use Rattle.qe_document.specs.declared.value.Value.TheVariants as v
+use Rattle.qe_value.specs.declared.value.Value.{Value}
+use Rattle.qe_value.specs.declared.value.Value.TheVariants as v
 use Rattle.qe_document.specs.Views.{plain, document_in, array_in}
-use Rattle.qe_document.proofs.PlainLemmas as o
+use Rattle.qe_value.proofs.PlainLemmas as o
 use Rattle.qe_layout.specs.Documents.{fields_open, fields_of, items_open, items_of}
 
 -- the elements of a value are those of its tree

@@ -4,7 +4,7 @@ use Rattle.std.specs.Prelude.{bytes_eq}
 use Rattle.std.proofs.lemmas.Bool.{cond-true, cond-false, or_parts}
 use Rattle.std.proofs.lemmas.Slice.Eq.{bytes_eq-Decides}
 use Rattle.qe_document.specs.Names.{Distinct, is_named, value_named}
-use Rattle.qe_document.specs.declared.value.Plain.{Plain}
+use Rattle.qe_value.specs.declared.value.Plain.{Plain}
 use Rattle.qe_layout.specs.declared.malformed.Kind.{Kind}
 use Rattle.qe_layout.specs.Refusal.{map_read}
 use Rattle.qe_layout.specs.Layouts.{Element, Reader, Rows, arranged, built, IsSlot, AreSlots, HasOnly, IsLaid}

@@ -1,6 +1,6 @@
 -- Blobs: one byte for the kind, and one document.
 use Rattle.std.specs.Prelude.{◌≡◌, ℕ, ◌-◌, ◌==◌, List, [], ◌∷◌, length, bytes_eq, codes, if◌then◌else◌, Result, Ok, Err}
-use Rattle.qe_document.specs.declared.fault.BsonFault.{BsonFault}
+use Rattle.qe_value.specs.declared.fault.BsonFault.{BsonFault}
 use Rattle.qe_document.specs.Reading.{document_at}
 use Rattle.qe_document.specs.Spelling.{Begins}
 use Rattle.qe_layout.specs.declared.malformed.Kind.TheVariants.{Empty, BlobSubtype, Bson, Trailing}

@@ -1,7 +1,7 @@
 -- Documents and arrays that stand under a name.
 use Rattle.std.specs.Prelude.{ℕ, ◌+◌, ◌==◌, nat_lt, Bool, true, ◌&&◌, List, [], ◌∷◌, length, decimal, if◌then◌else◌, Option, None, Some, Result, Ok, Err}
-use Rattle.qe_document.specs.declared.value.Plain.{Plain, out-Plain}
-use Rattle.qe_document.specs.declared.value.Plain.TheOpen.{Plain-F}
+use Rattle.qe_value.specs.declared.value.Plain.{Plain, out-Plain}
+use Rattle.qe_value.specs.declared.value.Plain.TheOpen.{Plain-F}
 use Rattle.qe_layout.specs.declared.malformed.Kind.TheVariants.{WrongType, NoEdges, TooManyEdges}
 use Rattle.qe_layout.specs.Refusal.{Refusal, wrong, bind, map_read, read_inside}
 use Rattle.qe_layout.specs.Layouts.{Element, Reader}

@@ -1,7 +1,7 @@
 -- The laws of layouts.
 use Rattle.std.specs.Prelude.{◌≡◌, List, Option, Ok}
 use Rattle.qe_document.specs.Names.{Distinct}
-use Rattle.qe_document.specs.declared.value.Plain.{Plain}
+use Rattle.qe_value.specs.declared.value.Plain.{Plain}
 use Rattle.qe_layout.specs.Layouts.{Element, Reader, Rows, arranged, IsLaid}
 use Rattle.qe_layout.specs.Writing.{written, AreSpelled}
 

@@ -1,7 +1,7 @@
 -- Layouts: a kind of document is one table of rows, and its elements are read into the slots of their rows.
 use Rattle.std.specs.Prelude.{◌≡◌, ℕ, ◌+◌, slice_index_or, slice_set, List, [], ◌∷◌, map, bytes_eq, if◌then◌else◌, Option, None, Some, Result, Ok, Err, Bool, true}
 use Rattle.qe_document.specs.Names.{Distinct, is_named, value_named}
-use Rattle.qe_document.specs.declared.value.Plain.{Plain}
+use Rattle.qe_value.specs.declared.value.Plain.{Plain}
 use Rattle.qe_layout.specs.declared.malformed.Kind.{Kind}
 use Rattle.qe_layout.specs.declared.malformed.Kind.TheVariants.{Missing, Unknown}
 use Rattle.qe_layout.specs.Refusal.{Refusal, wrong, bind, map_read}

@@ -1,7 +1,7 @@
 -- How single values are read.
 use Rattle.std.specs.Prelude.{ℕ, ◌==◌, nat_lt, ℤ, pos, negsuc, List, length, if◌then◌else◌, Result, Ok, Err}
-use Rattle.qe_document.specs.declared.value.Plain.{Plain}
-use Rattle.qe_document.specs.declared.value.Plain.TheVariants.{Binary, Int32, Int64}
+use Rattle.qe_value.specs.declared.value.Plain.{Plain}
+use Rattle.qe_value.specs.declared.value.Plain.TheVariants.{Binary, Int32, Int64}
 use Rattle.qe_layout.specs.declared.malformed.Kind.TheVariants.{WrongType, WrongLength, Negative}
 use Rattle.qe_layout.specs.Refusal.{Refusal, wrong}
 use Rattle.qe_layout.specs.Layouts.{Reader}

@@ -1,6 +1,6 @@
 -- The written order is the table's.
 use Rattle.std.specs.Prelude.{◌≡◌, ℕ, List, [], ◌∷◌, Option, None, Some, Result, Ok}
-use Rattle.qe_document.specs.declared.value.Plain.{Plain}
+use Rattle.qe_value.specs.declared.value.Plain.{Plain}
 use Rattle.qe_layout.specs.Layouts.{Element, Reader, Rows}
 
 -- the elements of slots, in the order of the rows; an empty slot is left out

@@ -3,9 +3,9 @@ use Rattle.std.proofs.Common.{◌≡◌, ℕ, ◌+◌, ◌<◌, List, [], ◌∷
 use Rattle.std.specs.Prelude.{decimal, IfOk, IfErr}
 use Rattle.std.specs.List.{AllByRecursion}
 use Rattle.std.proofs.lemmas.List.{take_more}
-use Rattle.qe_document.specs.declared.value.Plain.{Plain}
-use Rattle.qe_document.specs.declared.value.Plain.TheVariants.{Array, Doc}
-use Rattle.qe_document.proofs.PlainLemmas.{out-Doc, out-Array}
+use Rattle.qe_value.specs.declared.value.Plain.{Plain}
+use Rattle.qe_value.specs.declared.value.Plain.TheVariants.{Array, Doc}
+use Rattle.qe_value.proofs.PlainLemmas.{out-Doc, out-Array}
 use Rattle.qe_layout.specs.Refusal.{Refusal, bind, map_read, read_inside}
 use Rattle.qe_layout.specs.Layouts.{Element, Reader}
 use Rattle.qe_layout.specs.Documents.{fields_open, fields_of, items_open, items_of, of_type, document_reads, each_read}

@@ -3,7 +3,7 @@ use Rattle.std.proofs.Common.{◌≡◌, ℕ, List, [], ◌∷◌, ◌++◌, ref
 use Rattle.std.specs.Prelude.{codes}
 use Rattle.std.proofs.lemmas.List.{append-nil}
 use Rattle.qe_document.specs.Names.{value_named}
-use Rattle.qe_document.specs.declared.value.Plain.{Plain}
+use Rattle.qe_value.specs.declared.value.Plain.{Plain}
 use Rattle.qe_layout.specs.Layouts.{Element, Reader, part_in, slot, slots_of}
 use Rattle.qe_layout.proofs.FillLemmas.{arranged-slots}
 use Rattle.qe_layout.proofs.LaidLemmas.{laid_arranged}

@@ -6,9 +6,9 @@ use Rattle.std.proofs.Common.{◌≡◌, ℕ, zero, suc, ◌<◌, ◌==◌, fals
 use Rattle.std.specs.Prelude.{codes, FitsSigned}
 use Rattle.std.specs.Int.{w32, w64, to_le_bytes, cast_unsigned}
 use Rattle.qe_document.specs.Spelling.{Spelled, IsName, element, fields_bytes, framed, spelled, spelled_field, document_bytes, IsDocument, FieldsFit}
-use Rattle.qe_document.specs.declared.value.Plain.TheVariants as p
-use Rattle.qe_document.proofs.PlainLemmas.{spelled-Binary, spelled-Int64, out-Binary, out-Int64}
-use Rattle.qe_document.proofs.SizeLemmas.{document_lengths}
+use Rattle.qe_value.specs.declared.value.Plain.TheVariants as p
+use Rattle.qe_value.proofs.PlainLemmas.{spelled-Binary, spelled-Int64, out-Binary, out-Int64}
+use Rattle.qe_encode.proofs.SizeLemmas.{document_lengths}
 use Rattle.qe_payload.specs.declared.equal.FindEqual.{FindEqual}
 use Rattle.qe_payload.specs.Insert.{insert_elements, written_insert}
 use Rattle.qe_payload.specs.Range.{range_elements, written_range}

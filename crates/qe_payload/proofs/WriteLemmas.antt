@@ -5,8 +5,8 @@ use Rattle.std.specs.List.{AllByRecursion}
 use Rattle.std.proofs.lemmas.Bool.{le-ltb, ne_eqb, cond-false}
 use Rattle.std.proofs.lemmas.List.{append-nil, length-map}
 use Rattle.qe_document.specs.Names.{value_named}
-use Rattle.qe_document.specs.declared.value.Plain.{Plain}
-use Rattle.qe_document.specs.declared.value.Plain.TheVariants as p
+use Rattle.qe_value.specs.declared.value.Plain.{Plain}
+use Rattle.qe_value.specs.declared.value.Plain.TheVariants as p
 use Rattle.qe_layout.specs.declared.malformed.Kind.{Kind}
 use Rattle.qe_layout.specs.declared.malformed.Kind.TheVariants.{NoEdges, TooManyEdges, WrongLength}
 use Rattle.qe_layout.specs.Refusal.{Refusal, wrong, bind, map_read, read_inside}

@@ -2,7 +2,7 @@
 use Rattle.std.specs.Prelude.{◌≡◌, ℕ, false, List, [], ◌∷◌, ◌++◌, codes, Option, None, Some}
 use Rattle.std.specs.List.{flat_map}
 use Rattle.qe_document.specs.Names.{is_named, value_named}
-use Rattle.qe_document.specs.declared.value.Plain.{Plain}
+use Rattle.qe_value.specs.declared.value.Plain.{Plain}
 use Rattle.qe_layout.specs.Layouts.{Element, Row, optional, in_slot}
 use Rattle.qe_payload.specs.declared.parts.Part.{Part}
 use Rattle.qe_payload.specs.declared.parts.Part.TheVariants.{Carried}

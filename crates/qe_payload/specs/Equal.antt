@@ -1,7 +1,7 @@
 -- FindEqualityPayloadV2 of libmongocrypt: tokens of an item, and the greatest contention factor.
 use Rattle.std.specs.Prelude.{ℕ, ◌≡◌, List, [], ◌∷◌, length, codes, Option, Result}
 use Rattle.qe_document.specs.Spelling.{document_bytes}
-use Rattle.qe_document.specs.declared.value.Plain.TheVariants.{Binary, Int64}
+use Rattle.qe_value.specs.declared.value.Plain.TheVariants.{Binary, Int64}
 use Rattle.qe_layout.specs.Blobs.{opened, IsBlob}
 use Rattle.qe_layout.specs.Layouts.{Element, Reader, Row, Rows, needed, rows_of, reads_of, in_slot, built, IsBuilt}
 use Rattle.qe_layout.specs.Refusal.{Refusal, bind}

@@ -2,8 +2,8 @@
 use Rattle.std.specs.Prelude.{◌≡◌, ◌≤◌, ℕ, List, [], ◌∷◌, ◌++◌, length, map, true, codes, Option, None, Some, Result, Ok}
 use Rattle.std.specs.List.{AllByRecursion}
 use Rattle.qe_document.specs.Spelling.{document_bytes}
-use Rattle.qe_document.specs.declared.value.Plain.{Plain}
-use Rattle.qe_document.specs.declared.value.Plain.TheVariants.{Array, Binary, Doc, Int32, Int64}
+use Rattle.qe_value.specs.declared.value.Plain.{Plain}
+use Rattle.qe_value.specs.declared.value.Plain.TheVariants.{Array, Binary, Doc, Int32, Int64}
 use Rattle.qe_layout.specs.Blobs.{opened, IsBlob}
 use Rattle.qe_layout.specs.Documents.{document_reads, bounded_reads}
 use Rattle.qe_layout.specs.Layouts.{Element, Reader, Row, Rows, needed, optional, rows_of, reads_of, in_slot, built, IsBuilt}

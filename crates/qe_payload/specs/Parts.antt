@@ -1,8 +1,8 @@
 -- What stands under the names of payloads, and how it is taken out of a slot.
 use Rattle.std.specs.Prelude.{ℕ, ℤ, pos, List, [], replicate, if◌then◌else◌, Option, None, Some, Ok}
 use Rattle.std.specs.Ordering.{int_eq}
-use Rattle.qe_document.specs.declared.value.Plain.{Plain}
-use Rattle.qe_document.specs.declared.value.Plain.TheVariants.{Int32}
+use Rattle.qe_value.specs.declared.value.Plain.{Plain}
+use Rattle.qe_value.specs.declared.value.Plain.TheVariants.{Int32}
 use Rattle.qe_layout.specs.declared.malformed.Kind.TheVariants.{ProfileOperator, WrongType}
 use Rattle.qe_layout.specs.Leaves.{fixed_reads, bytes_reads, int32_reads, natural_reads}
 use Rattle.qe_layout.specs.Layouts.{Reader}

@@ -1,8 +1,8 @@
 -- FindRangePayloadV2 of libmongocrypt: tokens of the edges of a range, the greatest contention factor, and the range's two operators.
 use Rattle.std.specs.Prelude.{◌≡◌, ℕ, ℤ, pos, length, List, [], ◌∷◌, ◌++◌, map, false, codes, Option, None, Some, Result}
 use Rattle.qe_document.specs.Spelling.{document_bytes}
-use Rattle.qe_document.specs.declared.value.Plain.{Plain}
-use Rattle.qe_document.specs.declared.value.Plain.TheVariants.{Array, Binary, Doc, Int32, Int64}
+use Rattle.qe_value.specs.declared.value.Plain.{Plain}
+use Rattle.qe_value.specs.declared.value.Plain.TheVariants.{Array, Binary, Doc, Int32, Int64}
 use Rattle.qe_layout.specs.declared.malformed.Kind.TheVariants.{ProfileOperator}
 use Rattle.qe_layout.specs.Blobs.{opened, IsBlob}
 use Rattle.qe_layout.specs.Documents.{document_reads, bounded_reads}

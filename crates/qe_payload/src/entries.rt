@@ -3,7 +3,7 @@
 ghost use Rattle.std.specs.Prelude.{◌≡◌, List, map, IfOk};
 ghost use Rattle.std.specs.List.{AllByRecursion};
 ghost use Rattle.qe_document.specs.Views.{plain};
-ghost use Rattle.qe_document.specs.declared.value.Plain.TheVariants as p;
+ghost use Rattle.qe_value.specs.declared.value.Plain.TheVariants as p;
 ghost use Rattle.qe_layout.specs.Layouts.{Element};
 
 use qe_base::NoMemory;

@@ -5,7 +5,7 @@ ghost use Rattle.qe_document.specs.Names.{is_named};
 ghost use Rattle.qe_document.specs.Spelling.{document_bytes, IsDocument};
 ghost use Rattle.qe_document.specs.Views.{plain};
 ghost use Rattle.qe_document.specs.Writing.{IsWhyRefused};
-ghost use Rattle.qe_document.specs.declared.value.Plain.TheVariants as p;
+ghost use Rattle.qe_value.specs.declared.value.Plain.TheVariants as p;
 ghost use Rattle.qe_layout.specs.Blobs.{IsBlob};
 
 use qe_base::{Bytes, NoMemory, Text};

@@ -3,7 +3,7 @@ use Rattle.std.proofs.Common.{◌≡◌, ℕ, zero, suc, ◌+◌, ◌≤◌, ◌
 use Rattle.std.specs.Prelude.{Ok, bytes_eq, codes, slice_get, slice_set}
 use Rattle.std.specs.List.{AllByRecursion}
 use Rattle.std.proofs.lemmas.Bool.{cases_Bool}
-use Rattle.qe_document.specs.declared.value.Plain.{Plain}
+use Rattle.qe_value.specs.declared.value.Plain.{Plain}
 use Rattle.qe_schema.specs.declared.command.PlainCell.{PlainCell}
 use Rattle.qe_schema.specs.declared.fault.PlainFault.TheVariants as f
 use Rattle.qe_schema.specs.declared.field.Field.{Field}

@@ -3,11 +3,11 @@ use Rattle.std.proofs.Common.{◌≡◌, ℕ, suc, ◌+◌, ℤ, inl, inr, List,
 use Rattle.std.specs.Prelude.{Result, Ok, bytes_eq, codes, slice_get, ◌==◌}
 use Rattle.std.specs.List.{AllByRecursion, list_all}
 use Rattle.std.proofs.lemmas.Bool.{cases_Bool, eqb-true}
-use Rattle.qe_document.specs.declared.value.Plain.{Plain}
-use Rattle.qe_document.specs.declared.value.Plain.TheVariants as p
+use Rattle.qe_value.specs.declared.value.Plain.{Plain}
+use Rattle.qe_value.specs.declared.value.Plain.TheVariants as p
 use Rattle.qe_document.specs.Views.{fields_of, items_of}
 use Rattle.qe_document.specs.Types.{type_byte}
-use Rattle.qe_document.proofs.PlainLemmas.{spelled-Int64}
+use Rattle.qe_value.proofs.PlainLemmas.{spelled-Int64}
 use Rattle.qe_edges.specs.Rules.{Rules}
 use Rattle.qe_schema.specs.declared.command.Term.{Term}
 use Rattle.qe_schema.specs.declared.command.Term.TheVariants as t

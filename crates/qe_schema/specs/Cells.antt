@@ -1,6 +1,6 @@
 -- The values of a document or of a set, judged in the order of the names.
 use Rattle.std.specs.Prelude.{ℕ, ◌&&◌, ◌||◌, ℤ, int_le, List, [], ◌∷◌, codes, Bool, false, bytes_eq, Option, None, Some, Result, Ok, Err, if◌then◌else◌}
-use Rattle.qe_document.specs.declared.value.Plain.{Plain}
+use Rattle.qe_value.specs.declared.value.Plain.{Plain}
 use Rattle.qe_edges.specs.Rules.{Rules}
 use Rattle.qe_schema.specs.declared.field.Field.{Field}
 use Rattle.qe_schema.specs.declared.field.FieldKind.{FieldKind}

@@ -1,7 +1,7 @@
 -- The plain collection: what documents and commands mean to a user, without any encryption.
 use Rattle.std.specs.Prelude.{◌≡◌, ℕ, ◌<◌, ◌==◌, ◌&&◌, ℤ, int_le, List, [], ◌∷◌, ◌++◌, map, filter, All, Bool, false, bytes_eq, nat_lt, Option, None, Some, if◌then◌else◌}
 use Rattle.std.specs.List.{list_all, list_any, AllPairs}
-use Rattle.qe_document.specs.declared.value.Plain.{Plain}
+use Rattle.qe_value.specs.declared.value.Plain.{Plain}
 use Rattle.qe_document.specs.Spelling.{spelled}
 use Rattle.qe_schema.specs.declared.command.PlainCell.{PlainCell}
 use Rattle.qe_schema.specs.declared.command.PlainCommand.{PlainCommand}

@@ -2,7 +2,7 @@
 use Rattle.std.specs.Prelude.{ℕ, ◌==◌, ℤ, is_none, List, [], ◌∷◌, length, codes, Bool, false, bytes_eq, Option, None, Some, option_map, Result, Ok, Err, if◌then◌else◌}
 use Rattle.std.specs.Option.{option_copied}
 use Rattle.std.specs.List.{list_all}
-use Rattle.qe_document.specs.declared.value.Plain.{Plain}
+use Rattle.qe_value.specs.declared.value.Plain.{Plain}
 use Rattle.qe_document.specs.Names.{value_named}
 use Rattle.qe_edges.specs.Rules.{Rules}
 use Rattle.qe_schema.specs.declared.field.Field.{Field}

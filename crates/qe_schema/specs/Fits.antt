@@ -2,7 +2,7 @@
 -- its names; and which name of the command's line is at fault where it can't.
 use Rattle.std.specs.Prelude.{ℕ, ℤ, ◌+◌, ◌*◌, ◌/◌, ◌^◌, ◌&&◌, ◌||◌, List, [], ◌∷◌, ◌++◌, map, length, codes, Bool, true, false, not, nat_lt, nat_le, is_none, Option, None, Some, slice_get, if◌then◌else◌}
 use Rattle.std.specs.List.{list_any}
-use Rattle.qe_document.specs.declared.value.Plain.{Plain}
+use Rattle.qe_value.specs.declared.value.Plain.{Plain}
 use Rattle.qe_document.specs.Limits.{most_bytes, most_levels}
 use Rattle.qe_document.specs.Measures.{depth, zero_in, value_length, fields_length, items_length}
 use Rattle.qe_edges.specs.Rules.{Rules}

@@ -1,6 +1,6 @@
 -- Which field's token is sent for which field.
 use Rattle.std.specs.Prelude.{ℕ, ◌+◌, List, [], ◌∷◌, Option, None, Some, Result, Ok, if◌then◌else◌}
-use Rattle.qe_document.specs.declared.value.Plain.{Plain}
+use Rattle.qe_value.specs.declared.value.Plain.{Plain}
 use Rattle.qe_schema.specs.declared.field.Field.{Field}
 use Rattle.qe_schema.specs.declared.fault.PlainFault.{PlainFault}
 use Rattle.qe_schema.specs.declared.fault.PlainFault.TheVariants as f

@@ -1,7 +1,7 @@
 -- The schema that a document is, or its first fault. A field is judged behind the earlier ones.
 use Rattle.std.specs.Prelude.{ℕ, ◌+◌, ◌-◌, ◌^◌, ◌==◌, ◌||◌, ◌&&◌, ℤ, pos, negsuc, int_le, List, [], ◌∷◌, ◌++◌, length, codes, Bool, true, false, not, bytes_eq, nat_lt, nat_le, Option, None, Some, option_map, unwrap_or, Result, Ok, Err, if◌then◌else◌}
 use Rattle.uuid.specs.Text.{parsed}
-use Rattle.qe_document.specs.declared.value.Plain.{Plain}
+use Rattle.qe_value.specs.declared.value.Plain.{Plain}
 use Rattle.qe_document.specs.Views.{items_of}
 use Rattle.qe_document.specs.Names.{value_named}
 use Rattle.qe_edges.specs.declared.domain.DomainFault.{DomainFault}

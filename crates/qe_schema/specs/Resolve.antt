@@ -1,6 +1,6 @@
 -- A command under a schema, or the first fault.
 use Rattle.std.specs.Prelude.{ℕ, ◌&&◌, List, codes, nat_le, Result, Ok, Err, if◌then◌else◌, true, false}
-use Rattle.qe_document.specs.declared.value.Plain.{Plain}
+use Rattle.qe_value.specs.declared.value.Plain.{Plain}
 use Rattle.qe_document.specs.Names.{value_named}
 use Rattle.qe_schema.specs.declared.field.Field.{Field}
 use Rattle.qe_schema.specs.declared.field.FieldKind.{FieldKind}

@@ -1,7 +1,7 @@
 -- What a resolved command holds, by the fields of its schema.
 use Rattle.std.specs.Prelude.{◌≡◌, ℕ, ◌+◌, ◌≤◌, List, [], ◌∷◌, Bool, true, Some, Ok, slice_get}
 use Rattle.std.specs.List.{AllByRecursion}
-use Rattle.qe_document.specs.declared.value.Plain.{Plain}
+use Rattle.qe_value.specs.declared.value.Plain.{Plain}
 use Rattle.qe_schema.specs.declared.command.PlainCell.{PlainCell}
 use Rattle.qe_schema.specs.declared.command.Term.{Term}
 use Rattle.qe_schema.specs.declared.command.Term.TheVariants as t

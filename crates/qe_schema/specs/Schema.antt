@@ -1,7 +1,7 @@
 -- What a schema that was read is.
 use Rattle.std.specs.Prelude.{◌≡◌, ℕ, ◌≤◌, List, length, All, Bool, true, false, bytes_eq, Ok}
 use Rattle.std.specs.List.{AllPairs}
-use Rattle.qe_document.specs.declared.value.Plain.{Plain}
+use Rattle.qe_value.specs.declared.value.Plain.{Plain}
 use Rattle.qe_schema.specs.declared.field.Field.{Field}
 use Rattle.qe_schema.specs.declared.field.FieldKind.{FieldKind}
 use Rattle.qe_schema.specs.declared.field.FieldKind.TheVariants as k

@@ -1,6 +1,6 @@
 -- The form of a field object: which names it has, and of which types their values are.
 use Rattle.std.specs.Prelude.{ℕ, ◌+◌, ◌&&◌, ◌||◌, ◌==◌, ℤ, pos, negsuc, int_le, is_some, List, length, codes, Bool, not, bytes_eq, Option, None, Some, option_map, if◌then◌else◌}
-use Rattle.qe_document.specs.declared.value.Plain.{Plain}
+use Rattle.qe_value.specs.declared.value.Plain.{Plain}
 use Rattle.qe_document.specs.Names.{value_named}
 use Rattle.qe_document.specs.Views.{fields_of}
 use Rattle.qe_schema.specs.declared.shape.Rules.{Rules}

@@ -1,7 +1,7 @@
 -- What a value is where it stands in a field, as an id, or in a filter.
 use Rattle.std.specs.Prelude.{ℕ, ◌==◌, ◌||◌, ℤ, Bool, List, Option, None, Some, if◌then◌else◌}
-use Rattle.qe_document.specs.declared.value.Plain.{Plain}
-use Rattle.qe_document.specs.declared.value.Plain.TheVariants as p
+use Rattle.qe_value.specs.declared.value.Plain.{Plain}
+use Rattle.qe_value.specs.declared.value.Plain.TheVariants as p
 use Rattle.qe_document.specs.Spelling.{spelled}
 use Rattle.qe_document.specs.Types.{type_byte}
 

@@ -14,11 +14,11 @@ pub struct Carried {
 }
 
 impl Model for Carried {
-    ghost use Rattle.qe_document.specs.declared.value.Plain.{Plain};
+    ghost use Rattle.qe_value.specs.declared.value.Plain.{Plain};
 
     ghost Value = { Plain };
 
-    ghost use Rattle.qe_document.specs.contracts.value.Plain as e;
+    ghost use Rattle.qe_value.specs.contracts.value.Plain as e;
     ghost use Rattle.std.specs.Coded.{codes};
 
     ghost coded = { Prim.hlevel (codes, e.the_row.coded) };

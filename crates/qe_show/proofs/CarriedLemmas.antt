@@ -1,13 +1,13 @@
 -- What a payload carries unread can be written, since it stands in a document that was read.
 use Rattle.std.proofs.Common.{◌≡◌, ℕ, zero, suc, ◌+◌, List, [], ◌∷◌, ◌++◌, drop, Option, Some, None, refl, ap, sym, ◌∙◌, add-one}
 use Rattle.std.specs.Prelude.{slice_get, option_map}
-use Rattle.qe_document.specs.declared.fault.EncodeFault.{EncodeFault}
-use Rattle.qe_document.specs.declared.fault.EncodeFault.TheVariants.{NoMemory}
-use Rattle.qe_document.specs.declared.value.Plain.{Plain}
+use Rattle.qe_value.specs.declared.fault.EncodeFault.{EncodeFault}
+use Rattle.qe_value.specs.declared.fault.EncodeFault.TheVariants.{NoMemory}
+use Rattle.qe_value.specs.declared.value.Plain.{Plain}
 use Rattle.qe_document.specs.Names.{value_named}
 use Rattle.qe_document.specs.Spelling.{IsDocument}
 use Rattle.qe_document.specs.Writing.{IsWhyRefused}
-use Rattle.qe_document.proofs.FlatLemmas.{writing_laws}
+use Rattle.qe_encode.proofs.FlatLemmas.{writing_laws}
 use Rattle.qe_payload.specs.declared.insert.InsertPayload.{InsertPayload}
 use Rattle.qe_payload.specs.declared.range.FindRange.{FindRange}
 use Rattle.qe_layout.specs.Layouts.{Element}

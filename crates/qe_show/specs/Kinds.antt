@@ -1,10 +1,10 @@
 -- The names of refusals, with their numbers behind them.
 use Rattle.std.specs.Prelude.{ℕ, List, ◌++◌, codes}
 use Rattle.std.specs.Fmt.{decimal, signed_decimal}
-use Rattle.qe_document.specs.declared.fault.BsonFault.{BsonFault}
-use Rattle.qe_document.specs.declared.fault.BsonFault.TheVariants as bson
-use Rattle.qe_document.specs.declared.fault.BsonKind.{BsonKind}
-use Rattle.qe_document.specs.declared.fault.BsonKind.TheVariants as place
+use Rattle.qe_value.specs.declared.fault.BsonFault.{BsonFault}
+use Rattle.qe_value.specs.declared.fault.BsonFault.TheVariants as bson
+use Rattle.qe_value.specs.declared.fault.BsonKind.{BsonKind}
+use Rattle.qe_value.specs.declared.fault.BsonKind.TheVariants as place
 use Rattle.qe_indexed.specs.declared.fault.IndexedFault.{IndexedFault}
 use Rattle.qe_indexed.specs.declared.fault.IndexedFault.TheVariants as indexed
 use Rattle.qe_layout.specs.declared.malformed.Kind.{Kind}

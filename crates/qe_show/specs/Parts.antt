@@ -6,7 +6,7 @@ use Rattle.hex.specs.Hex.{encode_lower}
 use Rattle.uuid.specs.Text.{hyphenated_text, lower}
 use Rattle.qe_document.specs.Spelling.{spelled}
 use Rattle.qe_document.specs.Types.{type_byte}
-use Rattle.qe_document.specs.declared.value.Plain.{Plain}
+use Rattle.qe_value.specs.declared.value.Plain.{Plain}
 use Rattle.qe_layout.specs.Layouts.{Element}
 
 unfoldable pub named : List ℕ → List ℕ → List ℕ

@@ -4,7 +4,7 @@ use Rattle.std.specs.List.{list_any}
 use Rattle.std.proofs.lemmas.Bool.{cases_Bool, eqb-true, eq-eqb}
 use Rattle.std.proofs.lemmas.Slice.Eq.{bytes_eq-Decides}
 use Rattle.qe_chains.specs.Pairs.{with_the_tag}
-use Rattle.qe_document.specs.declared.value.Value.{Value}
+use Rattle.qe_value.specs.declared.value.Value.{Value}
 use Rattle.qe_store.specs.declared.stored.Stored.{Stored}
 use Rattle.qe_store.specs.Keys.{key_of}
 use Rattle.qe_store.specs.Kept.{document_at, IsNewId, Rising, id_pair}

@@ -8,7 +8,7 @@ use Rattle.std.proofs.lemmas.Bool.{eq-eqb}
 use Rattle.std.proofs.lemmas.Bool.Decides.{nat_tests}
 use Rattle.std.proofs.lemmas.Cmp.{ranked}
 use Rattle.std.proofs.lemmas.List.Sorted.{IsNonDecreasingBy-from_default}
-use Rattle.qe_document.specs.declared.value.Value.TheVariants.{Null}
+use Rattle.qe_value.specs.declared.value.Value.TheVariants.{Null}
 use Rattle.qe_store.specs.declared.stored.Stored.{Stored}
 use Rattle.qe_store.specs.Kept.{document_at, with_new, without, Above, Rising, IsPlace}
 use Rattle.qe_store.proofs.HoldLemmas.{ne_false, above_other}

@@ -2,7 +2,7 @@
 use Rattle.std.specs.Prelude.{◌≡◌, ℕ, ◌<◌, ◌==◌, not, cond, Bool, true, List, [], ◌∷◌, filter, map, Option, None, Some, IsSomeAnd, bytes_eq, length, slice_index_or}
 use Rattle.std.specs.List.{list_any}
 use Rattle.std.specs.Map.{lookup}
-use Rattle.qe_document.specs.declared.value.Value.{Value}
+use Rattle.qe_value.specs.declared.value.Value.{Value}
 use Rattle.qe_store.specs.declared.stored.Stored.{Stored}
 use Rattle.qe_store.specs.declared.stored.TermSet.{TermSet}
 use Rattle.qe_store.specs.declared.stored.TermSet.TheVariants.{Id, Tags}

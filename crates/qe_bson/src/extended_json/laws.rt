@@ -6,7 +6,7 @@ ghost use Rattle.std.specs.Result.{result_ok};
 ghost use Rattle.base64.specs.Engines.{standard};
 ghost use Rattle.base64.specs.GeneralPurpose.{IsBytes, decode_of, encode_of};
 ghost use Rattle.serde_json.specs.Data.{Data, depth};
-ghost use Rattle.qe_document.specs.declared.value.Plain.{Plain};
+ghost use Rattle.qe_value.specs.declared.value.Plain.{Plain};
 ghost use Rattle.qe_bson.specs.declared.extended_json.fault.JsonFault.{JsonFault};
 ghost use Rattle.qe_bson.specs.declared.extended_json.fault.JsonFault.TheVariants.{TooDeep, Unprintable};
 ghost use Rattle.qe_document.specs.Limits.{most_levels};

@@ -10,7 +10,7 @@ ghost use Rattle.serde_json.specs.View.{view};
 ghost use Rattle.serde_json.specs.Written.{has_float};
 ghost use Rattle.qe_document.specs.Limits.{most_levels};
 ghost use Rattle.qe_document.specs.Views.{plain};
-ghost use Rattle.qe_document.specs.declared.value.Plain.TheOpen.{Plain-F};
+ghost use Rattle.qe_value.specs.declared.value.Plain.TheOpen.{Plain-F};
 ghost use Rattle.qe_base.specs.Answers.{Answers};
 ghost use Rattle.qe_bson.specs.JsonFaults.{json_refusal};
 ghost use Rattle.qe_bson.specs.JsonForms.{fits};

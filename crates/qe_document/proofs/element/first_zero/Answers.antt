@@ -1,5 +1,5 @@
 use Rattle.std.proofs.Common.{arith, drop-cons, refl, sym, ◌∙◌}
-use Rattle.qe_document.proofs.ZeroLemmas.{split_some, split_none}
+use Rattle.qe_value.proofs.ZeroLemmas.{split_some, split_none}
 use Rattle.qe_document.proofs.element.first_zero.Goals as goal
 
 pub returns-then-i-bytes : goal.returns-then-i-bytes

@@ -1,6 +1,6 @@
 use Rattle.std.proofs.Common.{ℕ, List, Bor, ◌∙◌}
 use Rattle.std.proofs.lemmas.Map.Text.{is_eq-slice_cmp}
-use Rattle.qe_document.proofs.NameLemmas.{named_or_last}
+use Rattle.qe_document.proofs.SetLemmas.{named_or_last}
 use Rattle.qe_document.proofs.names.add.Goals as goal
 
 pub returns-clause-knows : goal.returns-clause-knows

@@ -1,9 +1,9 @@
 use Rattle.std.proofs.Common.{◌≡◌, false, map, take, drop, ap, sym, ◌∙◌, arith}
 use Rattle.std.proofs.lemmas.List.{length-map, take-map}
 use Rattle.std.proofs.lemmas.Result.{IfOk-weaker}
-use Rattle.qe_document.specs.Names.{is_named}
-use Rattle.qe_document.specs.Views.{field_view}
-use Rattle.qe_document.proofs.NameLemmas.{named_either, knows_push, knows_few}
+use Rattle.qe_value.specs.Names.{is_named}
+use Rattle.qe_value.specs.Views.{field_view}
+use Rattle.qe_document.proofs.SetLemmas.{named_either, knows_push, knows_few}
 use Rattle.qe_document.proofs.names.is_new.Goals as goal
 
 pub returns-then-before-lt-FEW-clause-knows : goal.returns-then-before-lt-FEW-clause-knows

@@ -1,8 +1,8 @@
 use Rattle.std.proofs.Common.{◌≡◌, ◌+◌, ◌-◌, ◌*◌, [], length, map, drop}
-use Rattle.qe_document.specs.Names.{Distinct}
+use Rattle.qe_value.specs.Names.{Distinct}
 use Rattle.qe_document.specs.NameSet.{Knows}
-use Rattle.qe_document.specs.Reading.{value_at, field_at, item_at, all_at}
-use Rattle.qe_document.specs.Views.{plain, field_view}
+use Rattle.qe_value.specs.Reading.{value_at, field_at, item_at, all_at}
+use Rattle.qe_value.specs.Views.{field_view}
 use Rattle.qe_document.proofs.reading.+read.Given as goal
 
 abbrev pub decreases-value_of : goal.decreases-value_of
@@ -34,4 +34,4 @@ invariant-fields_of-loop l = record {
 }
 
 abbrev pub invariant-items_of-loop : goal.invariant-items_of-loop
-invariant-items_of-loop l = all_at (item_at (value_at l.room)) (length l.bytes - l.counter) (map plain l.items.items) l.until l.rest ≡ all_at (item_at (value_at l.room)) (length l.bytes) [] l.until l.bytes
+invariant-items_of-loop l = all_at (item_at (value_at l.room)) (length l.bytes - l.counter) l.items l.until l.rest ≡ all_at (item_at (value_at l.room)) (length l.bytes) [] l.until l.bytes

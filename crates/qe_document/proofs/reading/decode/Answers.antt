@@ -1,7 +1,7 @@
 use Rattle.std.proofs.Common.{subst, arith}
 use Rattle.qe_base.specs.Answers.{Answers}
-use Rattle.qe_document.specs.Faults.{bson_refusal}
-use Rattle.qe_document.proofs.DocumentLemmas.{is_found, begins_again}
+use Rattle.qe_value.specs.Faults.{bson_refusal}
+use Rattle.qe_value.proofs.DocumentLemmas.{is_found, begins_again}
 use Rattle.qe_document.proofs.reading.decode.Goals as goal
 
 pub returns-clause-found : goal.returns-clause-found

@@ -1,8 +1,8 @@
 use Rattle.std.proofs.Common.{subst, arith}
 use Rattle.qe_base.specs.Answers.{Answers}
-use Rattle.qe_document.specs.Faults.{bson_refusal}
-use Rattle.qe_document.specs.Views.{plain}
-use Rattle.qe_document.proofs.AloneLemmas.{is_found_alone, alone_again}
+use Rattle.qe_value.specs.Faults.{bson_refusal}
+use Rattle.qe_value.specs.Views.{plain}
+use Rattle.qe_value.proofs.AloneLemmas.{is_found_alone, alone_again}
 use Rattle.qe_document.proofs.reading.value_from.Goals as goal
 
 pub returns-clause-found : goal.returns-clause-found

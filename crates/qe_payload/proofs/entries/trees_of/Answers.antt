@@ -1,6 +1,6 @@
 use Rattle.std.proofs.Common.{◌≡◌, ◌+◌, ◌++◌, ◌∷◌, [], take, map, ap, sym, ◌∙◌}
 use Rattle.std.proofs.lemmas.List.{map-append}
-use Rattle.qe_document.specs.declared.value.Plain.TheVariants.{Doc}
+use Rattle.qe_value.specs.declared.value.Plain.TheVariants.{Doc}
 use Rattle.qe_payload.proofs.EntryLemmas.{take_next, all_next}
 use Rattle.qe_payload.proofs.entries.trees_of.Goals as goal
 

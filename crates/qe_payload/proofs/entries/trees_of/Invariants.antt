@@ -1,6 +1,6 @@
 use Rattle.std.proofs.Common.{◌≡◌, take, map}
 use Rattle.std.specs.List.{AllByRecursion}
-use Rattle.qe_document.specs.declared.value.Plain.TheVariants as p
+use Rattle.qe_value.specs.declared.value.Plain.TheVariants as p
 use Rattle.qe_payload.proofs.entries.trees_of.Given as goal
 
 abbrev pub invariant-loop-i : goal.invariant-loop-i

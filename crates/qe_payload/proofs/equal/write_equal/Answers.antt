@@ -1,4 +1,4 @@
-use Rattle.qe_document.proofs.FlatLemmas.{writing_laws}
+use Rattle.qe_encode.proofs.FlatLemmas.{writing_laws}
 use Rattle.qe_payload.proofs.EntryLemmas.{if_err}
 use Rattle.qe_payload.proofs.equal.write_equal.Goals as goal
 

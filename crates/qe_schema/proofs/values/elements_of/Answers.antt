@@ -1,5 +1,5 @@
 use Rattle.std.proofs.Common.{sym, ◌∙◌}
-use Rattle.qe_document.proofs.ViewLemmas.{fields_of-plain}
+use Rattle.qe_value.proofs.ViewLemmas.{fields_of-plain}
 use Rattle.qe_schema.proofs.values.elements_of.Goals as goal
 
 pub returns : goal.returns

@@ -1,5 +1,5 @@
 use Rattle.std.proofs.Common.{sym, ◌∙◌}
-use Rattle.qe_document.proofs.ViewLemmas.{items_of-plain}
+use Rattle.qe_value.proofs.ViewLemmas.{items_of-plain}
 use Rattle.qe_schema.proofs.values.items_in.Goals as goal
 
 pub returns : goal.returns

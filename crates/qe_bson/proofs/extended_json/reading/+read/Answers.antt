@@ -1,6 +1,6 @@
 use Rattle.std.proofs.lemmas.List.{map_push}
 use Rattle.std.proofs.lemmas.Result.{err_from_is_err_and}
-use Rattle.qe_document.proofs.NameLemmas.{Distinct-from_view}
+use Rattle.qe_value.proofs.NameLemmas.{Distinct-from_view}
 use Rattle.serde_json.proofs.Views.{Entry}
 use Rattle.qe_bson.proofs.JsonReadLemmas.{fails, items_go_on, items_fail, items_done, fields_go_on, fields_fail, fields_done, Distinct-rising}
 use Rattle.qe_bson.proofs.extended_json.reading.+read.Goals as goal

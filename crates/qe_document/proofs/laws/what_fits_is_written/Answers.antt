@@ -1,5 +1,0 @@
-use Rattle.qe_document.proofs.FlatLemmas.{writing_laws}
-use Rattle.qe_document.proofs.laws.what_fits_is_written.Goals as goal
-
-pub returns : goal.returns
-returns c = writing_laws

@@ -1,0 +1,9 @@
+pub mod Falls
+pub mod Faults
+pub mod Limits
+pub mod Measures
+pub mod Names
+pub mod Reading
+pub mod Spelling
+pub mod Types
+pub mod Views
