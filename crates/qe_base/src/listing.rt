@@ -161,6 +161,22 @@ impl Duplicate for [u8; 96] {
     }
 }
 
+impl<T: Duplicate> Duplicate for Option<T> {
+    fn copy(&self) -> Result<Self, NoMemory> {
+        match self {
+            Some(value) => Ok(Some(value.copy()?)),
+            None => Ok(None),
+        }
+    }
+}
+
+impl<S: Duplicate, T: Duplicate> Duplicate for (S, T) {
+    fn copy(&self) -> Result<Self, NoMemory> {
+        let first = self.0.copy()?;
+        Ok((first, self.1.copy()?))
+    }
+}
+
 impl<T: Duplicate> Duplicate for Listing<T> {
     fn copy(&self) -> Result<Self, NoMemory> {
         let mut other = Listing::new(self.alloc);
