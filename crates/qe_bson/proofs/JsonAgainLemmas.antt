@@ -8,7 +8,8 @@ use Rattle.serde_json.specs.Data.{Data, Members, no_members, member, put}
 use Rattle.serde_json.specs.View.{items_of}
 use Rattle.qe_value.specs.declared.value.Plain.{Plain}
 use Rattle.qe_bson.specs.JsonReading.{then, value_at, items_at, fields_at}
-use Rattle.qe_bson.specs.JsonRound.{all_true, typed, ordered, most, levels}
+use Rattle.qe_bson.specs.JsonRound.{typed, ordered, levels}
+use Rattle.qe_value.specs.Measures.{all_true, greatest}
 use Rattle.qe_bson.specs.JsonWriting.{all_of, json_of}
 use Rattle.qe_bson.proofs.JsonFormLemmas.{both}
 use Rattle.qe_bson.proofs.JsonReadLemmas.{gave}
@@ -23,7 +24,7 @@ abbrev pub bare : List ℕ × Known → List ℕ × Plain
 bare f = (f.0, f.1.0)
 
 pub items_again : (vs : List Known) (room : ℕ) (ds : List Data) → all_of (map json_of (map (λ k. k.0) vs)) ≡ Ok ds → all_true (map typed (map (λ k. k.0) vs)) ≡ true → all_true (map ordered (map (λ k. k.0) vs)) ≡ true
-    → most (map levels (map (λ k. k.0) vs)) ≤ room → items_at room (items_of ds) ≡ Ok (map (λ k. k.0) vs)
+    → greatest (map levels (map (λ k. k.0) vs)) ≤ room → items_at room (items_of ds) ≡ Ok (map (λ k. k.0) vs)
 unfolding items_at
 items_again [] room ds e t o le = let none : [] ≡ ds = cc in subst (λ l. items_at room (items_of l) ≡ Ok []) none refl
 items_again (x ∷ vs) room ds e t o le =

@@ -8,7 +8,8 @@ use Rattle.qe_value.specs.declared.value.Plain.TheOpen.{Plain-F}
 use Rattle.qe_bson.specs.declared.extended_json.fault.JsonFault.{JsonFault}
 use Rattle.qe_bson.specs.declared.extended_json.fault.JsonFault.TheVariants.{Unprintable}
 use Rattle.qe_bson.specs.JsonReading.{then}
-use Rattle.qe_bson.specs.JsonWriting.{all_of, members_from, json_of, json_field, json_step, any_true, formless, formless_step}
+use Rattle.qe_value.specs.Measures.{any_true}
+use Rattle.qe_bson.specs.JsonWriting.{all_of, members_from, json_of, json_field, json_step, formless, formless_step}
 
 -- the answer is a fault exactly where the test holds
 abbrev Tells : {A : Type 0} → Result A JsonFault → Bool → Type 0

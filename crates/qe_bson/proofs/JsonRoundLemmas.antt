@@ -11,7 +11,8 @@ use Rattle.qe_value.specs.declared.value.Plain.TheOpen.{Plain-F}
 use Rattle.qe_value.specs.declared.value.Plain.TheVariants as p
 use Rattle.qe_bson.specs.JsonForms.{form_named, form_of}
 use Rattle.qe_bson.specs.JsonReading.{then, in_array, in_document, form_or, value_at, fields_at}
-use Rattle.qe_bson.specs.JsonRound.{all_true, typed, rising, like_a_form, ordered, ordered_step, most, levels}
+use Rattle.qe_bson.specs.JsonRound.{typed, rising, like_a_form, ordered, ordered_step, levels}
+use Rattle.qe_value.specs.Measures.{all_true, greatest}
 use Rattle.qe_bson.specs.JsonWriting.{all_of, array_data, object_data, members_from, json_of, json_field}
 use Rattle.qe_bson.proofs.JsonAgainLemmas.{Known, bare, items_again, AllBelow, none_below, AllBelow-put, fields_at-put}
 use Rattle.qe_bson.proofs.JsonFormLemmas.{both}
@@ -22,7 +23,7 @@ named [] = []
 named (f ∷ fs) = f.0 ∷ named fs
 
 fields_again : (fs : List (List ℕ × Known)) (before ms : Members) (room : ℕ) (front : List (List ℕ × Plain)) → members_from before (map json_field (map bare fs)) ≡ Ok ms → fields_at room before ≡ Ok front → AllBelow before (named fs) → rising (named fs) ≡ true
-    → all_true (map (λ f. typed f.1) (map bare fs)) ≡ true → all_true (map (λ f. ordered f.1) (map bare fs)) ≡ true → most (map (λ f. levels f.1) (map bare fs)) ≤ room → fields_at room ms ≡ Ok (front ++ map bare fs)
+    → all_true (map (λ f. typed f.1) (map bare fs)) ≡ true → all_true (map (λ f. ordered f.1) (map bare fs)) ≡ true → greatest (map (λ f. levels f.1) (map bare fs)) ≤ room → fields_at room ms ≡ Ok (front ++ map bare fs)
 fields_again [] before ms room front e read below rises t o le =
     let same : before ≡ ms = cc in subst (λ m. fields_at room m ≡ Ok (front ++ [])) same (read ∙ ap Ok (sym (append-nil front)))
 fields_again (f ∷ fs) before ms room front e read below rises t o le =
@@ -71,7 +72,7 @@ names_bare [] = refl
 names_bare (f ∷ fs) = ap (λ l. f.0 ∷ l) (names_bare fs)
 
 pub doc_again : (fs : List (List ℕ × Known)) (room : ℕ) (d : Data) → then object_data (members_from no_members (map json_field (map bare fs))) ≡ Ok d → all_true (map (λ f. f.1) (map (second typed) (map bare fs))) ≡ true
-    → ordered_step (Plain-F.Doc (map (second ordered) (map bare fs))) ≡ true → suc (most (map (λ f. f.1) (map (second levels) (map bare fs)))) ≤ room → value_at room d ≡ Ok (p.Doc (map bare fs))
+    → ordered_step (Plain-F.Doc (map (second ordered) (map bare fs))) ≡ true → suc (greatest (map (λ f. f.1) (map (second levels) (map bare fs)))) ≤ room → value_at room d ≡ Ok (p.Doc (map bare fs))
 unfolding value_at
 doc_again fs zero d e t o le = absurd (omega arith)
 doc_again fs (suc room) d e t o le =
@@ -84,13 +85,13 @@ doc_again fs (suc room) d e t o le =
     let like : like_a_form (map (λ f. f.0) (map bare fs)) ≡ false = ap like_a_form (names_bare fs ∙ sym names) ∙ not_true _ others.0 in
     let types = subst (λ l. all_true l ≡ true) (seconds typed (map bare fs)) t in
     let orders = subst (λ l. all_true l ≡ true) (seconds ordered (map bare fs)) others.1 in
-    let deep : most (map (λ f. levels f.1) (map bare fs)) ≤ room = subst (λ l. most l ≤ room) (seconds levels (map bare fs)) (omega arith) in
+    let deep : greatest (map (λ f. levels f.1) (map bare fs)) ≤ room = subst (λ l. greatest l ≤ room) (seconds levels (map bare fs)) (omega arith) in
     let read : fields_at room one.value ≡ Ok (map bare fs) = fields_again fs no_members one.value room [] one.found refl (none_below (named fs)) rises types orders deep in
     let none = no_form one.value room (map bare fs) read like in
     subst (λ x. value_at (suc room) x ≡ Ok (p.Doc (map bare fs))) all (ap (λ f. form_or room f (in_document (fields_at room one.value))) none ∙ ap in_document read)
 
 pub array_again : (vs : List Known) (room : ℕ) (d : Data) → then array_data (all_of (map json_of (map (λ k. k.0) vs))) ≡ Ok d → all_true (map typed (map (λ k. k.0) vs)) ≡ true → all_true (map ordered (map (λ k. k.0) vs)) ≡ true
-    → suc (most (map levels (map (λ k. k.0) vs))) ≤ room → value_at room d ≡ Ok (p.Array (map (λ k. k.0) vs))
+    → suc (greatest (map levels (map (λ k. k.0) vs))) ≤ room → value_at room d ≡ Ok (p.Array (map (λ k. k.0) vs))
 unfolding value_at
 array_again vs zero d e t o le = absurd (omega arith)
 array_again vs (suc room) d e t o le =

@@ -1,5 +1,5 @@
 -- Which values are read again from what is printed of them.
-use Rattle.std.specs.Prelude.{ℕ, suc, max, ◌==◌, ◌&&◌, nat_lt, Bool, true, false, not, List, [], ◌∷◌, map, length, is_some}
+use Rattle.std.specs.Prelude.{ℕ, suc, ◌==◌, ◌&&◌, nat_lt, Bool, true, false, not, List, [], ◌∷◌, map, length, is_some}
 use Rattle.std.specs.Cmp.Lexicographic.{slice_cmp}
 use Rattle.std.specs.List.{list_all}
 use Rattle.std.specs.Ordering.{nat_cmp, is_lt}
@@ -8,11 +8,8 @@ use Rattle.qe_value.specs.declared.value.Plain.{Plain, fold-Plain}
 use Rattle.qe_value.specs.declared.value.Plain.TheOpen.{Plain-F}
 use Rattle.qe_value.specs.declared.value.Value.{Value}
 use Rattle.qe_value.specs.declared.value.Value.TheVariants as v
+use Rattle.qe_value.specs.Measures.{all_true, greatest}
 use Rattle.qe_bson.specs.JsonForms.{fits, form_named}
-
-abbrev pub all_true : List Bool → Bool
-all_true [] = true
-all_true (b ∷ bs) = b && all_true bs
 
 -- numbers and bytes are in the ranges of their types, as they are in every value of the code
 abbrev pub typed_step : Plain-F Bool → Bool
@@ -47,14 +44,10 @@ ordered_step _ = true
 unfoldable pub ordered : Plain → Bool
 ordered = fold-Plain Bool ordered_step
 
-abbrev pub most : List ℕ → ℕ
-most [] = 0
-most (n ∷ ns) = max n (most ns)
-
 -- how many levels of objects and arrays the JSON of a value has, those of forms among them
 abbrev pub levels_step : Plain-F ℕ → ℕ
-levels_step (Plain-F.Doc fs) = suc (most (map (λ f. f.1) fs))
-levels_step (Plain-F.Array ns) = suc (most ns)
+levels_step (Plain-F.Doc fs) = suc (greatest (map (λ f. f.1) fs))
+levels_step (Plain-F.Array ns) = suc (greatest ns)
 levels_step (Plain-F.Binary subtype bytes) = 2
 levels_step (Plain-F.ObjectId id) = 1
 levels_step (Plain-F.Date z) = 2

@@ -1,5 +1,5 @@
 -- The JSON data of a value. Doubles, decimals and timestamps have none.
-use Rattle.std.specs.Prelude.{ℕ, ℤ, Bool, true, false, ◌||◌, List, [], ◌∷◌, map, codes, Result, Ok, Err}
+use Rattle.std.specs.Prelude.{ℕ, ℤ, Bool, true, false, List, [], ◌∷◌, map, codes, Result, Ok, Err}
 use Rattle.std.specs.Fmt.{signed_decimal}
 use Rattle.base64.specs.Engines.{standard}
 use Rattle.base64.specs.GeneralPurpose.{encode_of}
@@ -11,6 +11,7 @@ use Rattle.qe_value.specs.declared.value.Plain.{Plain, fold-Plain}
 use Rattle.qe_value.specs.declared.value.Plain.TheOpen.{Plain-F}
 use Rattle.qe_value.specs.declared.value.Value.{Value}
 use Rattle.qe_value.specs.declared.value.Value.TheVariants as v
+use Rattle.qe_value.specs.Measures.{any_true}
 use Rattle.qe_bson.specs.declared.extended_json.fault.JsonFault.{JsonFault}
 use Rattle.qe_bson.specs.declared.extended_json.fault.JsonFault.TheVariants.{Unprintable}
 use Rattle.qe_bson.specs.JsonReading.{then}
@@ -28,10 +29,13 @@ date millis = only (codes "$date") (long millis)
 abbrev pub object_id : List ℕ → Data
 object_id id = only (codes "$oid") (string (encode_lower id))
 
+abbrev pub binary_content : ℕ → List ℕ → Data
+binary_content subtype bytes =
+    object (member (codes "base64") (string (encode_of standard bytes))
+    (member (codes "subType") (string (encode_lower (subtype ∷ []))) no_members))
+
 abbrev pub binary : ℕ → List ℕ → Data
-binary subtype bytes =
-    only (codes "$binary") (object (member (codes "base64") (string (encode_of standard bytes))
-    (member (codes "subType") (string (encode_lower (subtype ∷ []))) no_members)))
+binary subtype bytes = only (codes "$binary") (binary_content subtype bytes)
 
 -- all items, where each has one
 abbrev pub all_of : List (Result Data JsonFault) → Result (List Data) JsonFault
@@ -76,10 +80,6 @@ json_of = fold-Plain (Result Data JsonFault) json_step
 
 abbrev pub json_field : List ℕ × Plain → List ℕ × Result Data JsonFault
 json_field f = (f.0, json_of f.1)
-
-abbrev pub any_true : List Bool → Bool
-any_true [] = false
-any_true (b ∷ bs) = b || any_true bs
 
 -- whether a double, a decimal or a timestamp stands in the value
 abbrev pub formless_step : Plain-F Bool → Bool

@@ -1,6 +1,6 @@
 //! Documents that come in pieces.
 
-ghost use Rattle.std.specs.Prelude.{◌≡◌, ℕ, List, [], ◌++◌, Option, None, IsTrue, ◌↔◌};
+ghost use Rattle.std.specs.Prelude.{◌≡◌, ℕ, List, [], ◌++◌, length, Option, None, IsTrue, ◌↔◌};
 ghost use Rattle.qe_value.specs.declared.fault.BsonKind.TheVariants.{Short};
 ghost use Rattle.qe_value.specs.declared.fault.BsonFault.{BsonFault};
 ghost use Rattle.qe_value.specs.declared.fault.BsonFault.TheVariants.{At};
@@ -120,6 +120,13 @@ impl Reader {
             held: Vec::new(alloc),
             fault: None,
         }
+    }
+
+    /// How many bytes it holds of a document that isn't whole. It takes no memory.
+    pub fn held(&self) -> usize
+        ensures { result ≡ length self.now.0 }
+    {
+        self.held.len()
     }
 
     /// Takes a piece. It answers the document that is whole now, if there is one, and how many bytes of the piece it

@@ -1,10 +1,12 @@
 //! Reading documents.
 
-ghost use Rattle.std.specs.Prelude.{◌≡◌, ◌≢◌, ℕ, ◌-◌, ◌≤◌, ◌<◌, [], ◌∷◌, ◌++◌, List, length, map, drop, option_map, Ok, bytes_eq, decimal, false, IfOk, IfSome};
+ghost use Rattle.std.specs.Prelude.{◌≡◌, ◌≢◌, ℕ, ◌+◌, ◌-◌, ◌≤◌, ◌<◌, [], ◌∷◌, ◌++◌, List, length, map, take, drop, option_map, Ok, bytes_eq, decimal, false, IfOk, IfSome};
 ghost use Rattle.qe_value.specs.Names.{is_named};
 ghost use Rattle.qe_document.specs.NameSet.{Knows};
 ghost use Rattle.qe_base.specs.Answers.{Answers};
+ghost use Rattle.qe_encode.specs.Writing.{encoded, value_encoded};
 ghost use Rattle.qe_value.specs.Faults.{bson_refusal};
+ghost use Rattle.qe_value.specs.Limits.{most_bytes};
 ghost use Rattle.qe_value.specs.Reading.{value_at, field_at, item_at, all_at, fields_in, items_in, length_at, document_at, typed_alone, alone_at};
 ghost use Rattle.qe_value.specs.Spelling.{Begins, IsAlone};
 ghost use Rattle.qe_value.specs.Views.{plain, field_view, taken_value, taken_field};
@@ -296,6 +298,8 @@ pub fn decode(alloc: Global, bytes: &[u8]) -> Result<(Document, usize), BsonFaul
     ensures only { (fields : List (List ℕ × Plain)) (n : ℕ) → Begins bytes.now fields n → Answers (λ x. x) bson_refusal result (Ok (fields, n)) }
     // Which fault it is.
     ensures exact { Answers (λ x. x) bson_refusal result (document_at bytes.now) }
+    // What is read is written as the bytes that it was read of.
+    ensures again { IfOk result (λ x. encoded x.0 ≡ Ok (take x.1 bytes.now)) }
 {
     document(alloc, bytes)
 }
@@ -336,6 +340,8 @@ pub fn value_from(alloc: Global, kind: u8, bytes: &[u8]) -> Result<Value, BsonFa
     ensures only { (v : Plain) → IsAlone kind bytes.now v → Answers plain bson_refusal result (Ok v) }
     // Which fault it is.
     ensures exact { Answers plain bson_refusal result (alone_at kind bytes.now) }
+    // What is read is written as these bytes, where they aren't too long for a document.
+    ensures again { IfOk result (λ v. length bytes.now + 7 ≤ most_bytes → value_encoded (plain v) ≡ Ok bytes.now) }
 {
     typed(alloc, kind, bytes)
 }

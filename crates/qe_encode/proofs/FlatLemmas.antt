@@ -1,22 +1,20 @@
 -- What fits has no more levels than its room and no name with a byte 0, so it is written; and so is each of its values alone.
-use Rattle.std.proofs.Common.{◌≡◌, ltb, Result, Ok, Err, ℕ, zero, suc, ◌+◌, ◌≤◌, Bool, true, false, List, [], ◌∷◌, length, map, if◌then◌else◌, Some, refl, subst, sym, ap, ◌∙◌, arith, rules}
-use Rattle.std.specs.Prelude.{bytes_eq, IfOk, IfErr}
+use Rattle.std.proofs.Common.{◌≡◌, Result, Ok, Err, ℕ, zero, suc, ◌+◌, ◌≤◌, Bool, true, false, List, [], ◌∷◌, length, map, if◌then◌else◌, Some, refl, subst, sym, ap, ◌∙◌, arith, rules}
+use Rattle.std.specs.Prelude.{bytes_eq, IfOk}
 use Rattle.std.specs.List.{AllByRecursion}
-use Rattle.std.proofs.lemmas.Bool.{or_from, le-ltb, lt-ltb}
+use Rattle.std.proofs.lemmas.Bool.{or_from}
 use Rattle.std.proofs.lemmas.List.{length-append}
 use Rattle.qe_value.specs.declared.fault.EncodeFault.{EncodeFault}
-use Rattle.qe_value.specs.declared.fault.EncodeFault.TheVariants.{TooLong, TooDeep, ZeroInName, NoMemory}
 use Rattle.qe_value.specs.declared.value.Plain.{Plain, roll-Plain, out-Plain, the_lemmas}
 use Rattle.qe_value.specs.declared.value.Plain.TheOpen.{Plain-F}
 use Rattle.qe_value.specs.declared.value.Plain.TheVariants as p
-use Rattle.qe_base.specs.Answers.{Answers, Refuses}
-use Rattle.qe_value.specs.Faults.{encode_refusal}
 use Rattle.qe_value.specs.Names.{value_named}
 use Rattle.qe_value.specs.Reading.{alone_at}
 use Rattle.qe_value.specs.Types.{type_byte}
 use Rattle.qe_value.specs.Spelling.{element, fields_bytes, spelled, spelled_field, document_bytes, Fits_with, FieldsFit, ItemsFit, IsDocument}
 use Rattle.qe_value.specs.Measures.{greatest, depth, fields_depth, items_depth, zero_in, zero_in_fields, zero_in_items}
-use Rattle.qe_encode.specs.Writing.{written_as, IsWhyRefused, WritingLaws}
+use Rattle.qe_encode.specs.Writing.{written_as, WritingLaws}
+use Rattle.qe_encode.proofs.RefusalLemmas.{written_then}
 use Rattle.qe_value.proofs.AloneLemmas.{alone_length, alone_fits, alone_again}
 use Rattle.qe_value.proofs.ValueAgain.{short_counted}
 use Rattle.qe_value.proofs.DepthLemmas.{depth-Doc, depth-Array, zero_in-Doc, zero_in-Array}
@@ -73,31 +71,8 @@ levels_flat (suc room) =
     )
 
 -- a document of the profile has no refusal
-written_whole : (fs : List (List ℕ × Plain)) (bytes : List ℕ) → IsDocument fs → written_as fs bytes ≡ Ok bytes
-written_whole fs bytes is =
-    let flat = (levels_flat 100).0 fs is.fits in
-    let short : ltb 16777216 (length (document_bytes fs)) ≡ false = le-ltb _ _ is.short in
-    let shallow : ltb 100 (fields_depth fs) ≡ false = le-ltb _ _ flat.0 in
-    rw (short, shallow, flat.1) refl
-
--- a reason is the first refusal
-written_refused : (fs : List (List ℕ × Plain)) (bytes : List ℕ) (fault : EncodeFault) → IsWhyRefused fs fault → Refuses (encode_refusal fault) (written_as fs bytes)
-written_refused fs bytes TooLong why = let long : ltb 16777216 (length (document_bytes fs)) ≡ true = lt-ltb _ _ why in rw long refl
-written_refused fs bytes TooDeep why =
-    let short : ltb 16777216 (length (document_bytes fs)) ≡ false = le-ltb _ _ why.0 in
-    let deep : ltb 100 (fields_depth fs) ≡ true = lt-ltb _ _ why.1 in
-    rw (short, deep) refl
-written_refused fs bytes ZeroInName why =
-    let short : ltb 16777216 (length (document_bytes fs)) ≡ false = le-ltb _ _ why.0 in
-    let shallow : ltb 100 (fields_depth fs) ≡ false = le-ltb _ _ why.1 in
-    rw (short, shallow, why.2) refl
-written_refused fs bytes NoMemory why = tt
-
--- an answer with its reasons is the first refusal, or the bytes
-pub written_exactly : (fs : List (List ℕ × Plain)) (bytes : List ℕ) (r : Result (List ℕ) EncodeFault) → IfOk r (λ out. out ≡ bytes) → IfOk r (λ _. IsDocument fs) → IfErr r (IsWhyRefused fs)
-    → Answers (λ out. out) encode_refusal r (written_as fs bytes)
-written_exactly fs bytes (Ok out) ok fits err = written_whole fs bytes fits ∙ ap (λ b. Ok b) (sym ok)
-written_exactly fs bytes (Err fault) ok fits err = written_refused fs bytes fault err
+pub written_whole : (fs : List (List ℕ × Plain)) (bytes : List ℕ) → IsDocument fs → written_as fs bytes ≡ Ok bytes
+written_whole fs bytes is = let flat = (levels_flat 100).0 fs is.fits in written_then fs bytes is.short flat.0 flat.1
 
 -- a value whose document fits is read again from its bytes
 pub value_read_again : (v : Plain) (r : Result (List ℕ) EncodeFault) → IfOk r (λ out. out ≡ (spelled v).bytes) → IfOk r (λ _. IsDocument (([], v) ∷ []))
@@ -107,13 +82,6 @@ value_read_again v (Ok out) ok is =
     let counted = short_counted v (omega (arith, alone_length v, is.short)) in
     alone_again (type_byte (spelled v).kind) out v record { type_is = refl; bytes_are = ok; fits = is.fits.1.0.1; counted = counted }
 value_read_again v (Err fault) ok is = tt
-
--- a document of the profile is refused for want of memory alone
-only_memory : (fs : List (List ℕ × Plain)) (fault : EncodeFault) → IsDocument fs → IsWhyRefused fs fault → fault ≡ NoMemory
-only_memory fs TooLong is why = absurd (omega (arith, is.short, why))
-only_memory fs TooDeep is why = let flat = (levels_flat 100).0 fs is.fits in absurd (omega (arith, flat.0, why.1))
-only_memory fs ZeroInName is why = let flat = (levels_flat 100).0 fs is.fits in let both : false ≡ true = sym flat.1 ∙ why.2 in absurd (cc both)
-only_memory fs NoMemory is why = refl
 
 -- a value of a document fits as its fields do
 part_fits : (Fields : List (List ℕ × Plain) → Type 0) (Items : List Plain → Type 0) (fs : List (List ℕ × Plain)) (name : List ℕ) (v : Plain)
@@ -150,4 +118,4 @@ part_alone fs name v is found =
     }
 
 pub writing_laws : WritingLaws
-writing_laws = record { written = λ fs. written_whole fs (document_bytes fs); only_memory = only_memory; alone = part_alone }
+writing_laws = record { written = λ fs. written_whole fs (document_bytes fs); value = λ v. written_whole (([], v) ∷ []) (spelled v).bytes; alone = part_alone }

@@ -1,3 +1,4 @@
 pub mod FlatLemmas
+pub mod RefusalLemmas
 pub mod SizeLemmas
 pub mod WriteLemmas

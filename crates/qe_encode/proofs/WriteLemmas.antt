@@ -5,10 +5,9 @@ use Rattle.qe_value.specs.declared.fault.EncodeFault.{EncodeFault}
 use Rattle.qe_value.specs.declared.fault.EncodeFault.TheVariants.{TooLong, TooDeep, ZeroInName, NoMemory}
 use Rattle.qe_value.specs.declared.value.Value.{Value}
 use Rattle.qe_value.specs.declared.value.Value.TheVariants as v
-use Rattle.qe_value.specs.Spelling.{Spelled, element, fields_bytes, items_bytes, framed, spelled, spelled_field}
+use Rattle.qe_value.specs.Spelling.{element, fields_bytes, items_bytes, framed, spelled, spelled_field}
 use Rattle.qe_value.specs.Views.{plain, field_view}
-use Rattle.qe_encode.specs.Writing.{Writes, IsWhyRefused, spell}
-use Rattle.qe_value.proofs.AloneLemmas.{alone_length}
+use Rattle.qe_encode.specs.Writing.{Writes, spell}
 use Rattle.qe_value.proofs.PlainLemmas as tree
 
 -- a value's spelling is that of its tree
@@ -26,13 +25,6 @@ spell_plain (v.Int32 z) = tree.spelled-Int32 z
 spell_plain (v.Timestamp n) = tree.spelled-Timestamp n
 spell_plain (v.Int64 z) = tree.spelled-Int64 z
 spell_plain (v.Decimal b) = tree.spelled-Decimal b
-
--- a refusal of the value's bytes is one of the document's
-pub alone_refused : (fault : EncodeFault) (new : List ℕ) (x : Value) → Writes [] new (Err fault) (spell x).bytes → IsWhyRefused (([], plain x) ∷ []) fault
-alone_refused TooLong new x refused = omega (arith, alone_length (plain x), ap (λ (s : Spelled). length s.bytes) (spell_plain x))
-alone_refused TooDeep new x refused = absurd refused
-alone_refused ZeroInName new x refused = absurd refused
-alone_refused NoMemory new x refused = tt
 
 abbrev pub bytes_of_fields : List (List ℕ × Value) → List ℕ
 bytes_of_fields fs = fields_bytes (map spelled_field (map field_view fs))

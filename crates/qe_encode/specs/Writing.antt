@@ -1,5 +1,5 @@
 -- What writing answers.
-use Rattle.std.specs.Prelude.{◌≡◌, ℕ, ◌+◌, ◌<◌, ◌≤◌, nat_lt, true, List, [], ◌∷◌, ◌++◌, length, map, if◌then◌else◌, Some, Result, Ok, Err}
+use Rattle.std.specs.Prelude.{◌≡◌, ℕ, ◌+◌, ◌<◌, ◌≤◌, nat_lt, List, [], ◌∷◌, ◌++◌, length, map, if◌then◌else◌, Some, Result, Ok, Err}
 use Rattle.qe_value.specs.declared.fault.EncodeFault.{EncodeFault}
 use Rattle.qe_value.specs.declared.fault.EncodeFault.TheVariants.{TooLong, TooDeep, ZeroInName, NoMemory}
 use Rattle.qe_value.specs.declared.value.Plain.{Plain}
@@ -54,15 +54,8 @@ encoded fs = written_as fs (document_bytes fs)
 abbrev pub value_encoded : Plain → Result (List ℕ) EncodeFault
 value_encoded v = written_as (([], v) ∷ []) (spelled v).bytes
 
--- why a document isn't written: the first of these in this order; want of memory is free
-abbrev pub IsWhyRefused : List (List ℕ × Plain) → EncodeFault → Type 0
-IsWhyRefused fs TooLong = most_bytes < length (document_bytes fs)
-IsWhyRefused fs TooDeep = (length (document_bytes fs) ≤ most_bytes) × (most_levels < fields_depth fs)
-IsWhyRefused fs ZeroInName = (length (document_bytes fs) ≤ most_bytes) × (fields_depth fs ≤ most_levels) × (zero_in_fields fs ≡ true)
-IsWhyRefused fs NoMemory = Unit {0}
-
--- a document of the profile is refused for want of memory alone, and a value of it is one alone
+-- a document of the profile has no refusal, nor has a value that fits alone, and each value of such a document does
 pub record WritingLaws : Type 0 where
   pub written : (fs : List (List ℕ × Plain)) → IsDocument fs → encoded fs ≡ Ok (document_bytes fs)
-  pub only_memory : (fs : List (List ℕ × Plain)) (fault : EncodeFault) → IsDocument fs → IsWhyRefused fs fault → fault ≡ NoMemory
+  pub value : (v : Plain) → IsDocument (([], v) ∷ []) → value_encoded v ≡ Ok (spelled v).bytes
   pub alone : (fs : List (List ℕ × Plain)) (name : List ℕ) (v : Plain) → IsDocument fs → value_named name fs ≡ Some v → IsDocument (([], v) ∷ [])

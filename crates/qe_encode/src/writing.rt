@@ -1,6 +1,6 @@
 //! Writing documents: all bytes go to the end of one vector, and each length is filled in once it is known.
 
-ghost use Rattle.std.specs.Prelude.{◌≡◌, ℕ, ◌+◌, ◌≤◌, ◌∷◌, [], ◌++◌, List, Ok, length, map, IfOk, IfErr};
+ghost use Rattle.std.specs.Prelude.{◌≡◌, ℕ, ◌+◌, ◌≤◌, ◌∷◌, [], ◌++◌, List, Ok, length, map, IfOk};
 ghost use Rattle.qe_base.specs.Answers.{Answers};
 ghost use Rattle.qe_value.specs.Faults.{encode_refusal};
 ghost use Rattle.qe_value.specs.Limits.{most_bytes};
@@ -8,7 +8,7 @@ ghost use Rattle.qe_value.specs.Reading.{document_at, alone_at};
 ghost use Rattle.qe_value.specs.Views.{plain};
 ghost use Rattle.qe_value.specs.Spelling.{Spelled, element, fields_bytes, items_bytes, framed, string, binary as binary_bytes, spelled, spelled_field, document_bytes, IsDocument};
 ghost use Rattle.qe_value.specs.Types.{type_byte};
-ghost use Rattle.qe_encode.specs.Writing.{Writes, spell, encoded, value_encoded, IsWhyRefused};
+ghost use Rattle.qe_encode.specs.Writing.{Writes, spell, encoded, value_encoded};
 
 use itoa::Buffer;
 use qe_base::Bytes;
@@ -172,9 +172,8 @@ fn put_array(out: &mut Vec<u8>, values: &Values) -> Result<(), EncodeFault>
 }
 
 fn document_out(alloc: Global, document: &Document) -> Result<Bytes, EncodeFault>
-    ensures ok { IfOk result (λ out. out ≡ document_bytes document.now) }
+    ensures exact { Answers (λ out. out) encode_refusal result (encoded document.now) }
     ensures fits { IfOk result (λ _. IsDocument document.now) }
-    ensures err { IfErr result (IsWhyRefused document.now) }
 {
     let mut out = Vec::new(alloc);
     put_document(&mut out, document)?;
@@ -191,19 +190,16 @@ fn document_out(alloc: Global, document: &Document) -> Result<Bytes, EncodeFault
 pub fn encode(alloc: Global, document: &Document) -> Result<Bytes, EncodeFault>
     // Its bytes, or its first refusal.
     ensures exact { Answers (λ out. out) encode_refusal result (encoded document.now) }
-    ensures ok { IfOk result (λ out. out ≡ document_bytes document.now) }
     ensures fits { IfOk result (λ _. IsDocument document.now) }
     // The bytes are read as the document again.
     ensures again { IfOk result (λ out. document_at out ≡ Ok (document.now, length out)) }
-    ensures err { IfErr result (IsWhyRefused document.now) }
 {
     document_out(alloc, document)
 }
 
 fn value_out(alloc: Global, value: &Value) -> Result<Bytes, EncodeFault>
-    ensures ok { IfOk result (λ out. out ≡ (spelled (plain value.now)).bytes) }
+    ensures exact { Answers (λ out. out) encode_refusal result (value_encoded (plain value.now)) }
     ensures fits { IfOk result (λ _. IsDocument (([], plain value.now) ∷ [])) }
-    ensures err { IfErr result (IsWhyRefused (([], plain value.now) ∷ [])) }
 {
     let mut out = Vec::new(alloc);
     put_value(&mut out, value)?;
@@ -224,11 +220,9 @@ fn value_out(alloc: Global, value: &Value) -> Result<Bytes, EncodeFault>
 pub fn value_bytes(alloc: Global, value: &Value) -> Result<Bytes, EncodeFault>
     // Its bytes, or its first refusal.
     ensures exact { Answers (λ out. out) encode_refusal result (value_encoded (plain value.now)) }
-    ensures ok { IfOk result (λ out. out ≡ (spelled (plain value.now)).bytes) }
     ensures fits { IfOk result (λ _. IsDocument (([], plain value.now) ∷ [])) }
     // The bytes are read as the value again.
     ensures again { IfOk result (λ out. alone_at (type_byte (spelled (plain value.now)).kind) out ≡ Ok (plain value.now)) }
-    ensures err { IfErr result (IsWhyRefused (([], plain value.now) ∷ [])) }
 {
     value_out(alloc, value)
 }

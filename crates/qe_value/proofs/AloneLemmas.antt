@@ -5,7 +5,7 @@ use Rattle.std.proofs.lemmas.List.{take_at, length-append}
 use Rattle.std.proofs.lemmas.Str.{IsUtf8-from_ascii, is_utf8-from_IsUtf8}
 use Rattle.qe_value.specs.declared.value.Plain.{Plain, out-Plain}
 use Rattle.qe_value.specs.declared.value.Value.{Value}
-use Rattle.qe_value.specs.Spelling.{Spelled, spelled, document_bytes, Fits_with, FieldsFit, ItemsFit, IsCounted, IsAlone}
+use Rattle.qe_value.specs.Spelling.{spelled, document_bytes, Fits_with, FieldsFit, ItemsFit, IsCounted, IsAlone}
 use Rattle.qe_value.specs.Views.{plain}
 use Rattle.std.specs.Prelude.{IfOk}
 use Rattle.qe_value.specs.declared.fault.BsonFault.{BsonFault}

@@ -1,6 +1,5 @@
 -- How many values an item and a field have, beside all of them.
-use Rattle.std.proofs.Common.{◌≡◌, ℕ, zero, suc, ◌+◌, ◌<◌, ◌≤◌, List, [], ◌∷◌, length, get_or, map, ap, arith}
-use Rattle.qe_value.specs.declared.value.Plain.{Plain}
+use Rattle.std.proofs.Common.{◌≡◌, ℕ, zero, suc, ◌<◌, ◌≤◌, List, [], ◌∷◌, length, get_or, map, ap, arith}
 use Rattle.qe_value.specs.declared.value.Value.{Value}
 use Rattle.qe_value.specs.Views.{plain, field_view, size_of, size_of_items, size_of_fields}
 

@@ -2,6 +2,7 @@ pub mod AllLemmas
 pub mod AloneLemmas
 pub mod CountLemmas
 pub mod DepthLemmas
+pub mod DistinctLemmas
 pub mod DocumentLemmas
 pub mod ElementLemmas
 pub mod EqualLemmas

@@ -1,5 +1,6 @@
 pub mod Falls
 pub mod Faults
+pub mod Kept
 pub mod Limits
 pub mod Measures
 pub mod Names

@@ -1,5 +1,6 @@
--- How deep a value is, whether a name in it holds a byte 0, and how many bytes it has.
-use Rattle.std.specs.Prelude.{ℕ, suc, ◌+◌, ◌==◌, max, Bool, false, ◌||◌, List, [], ◌∷◌, length, map, decimal}
+-- How deep a value is, whether a name in it holds a byte 0, whether names are distinct at each level, and how many bytes
+-- it has.
+use Rattle.std.specs.Prelude.{ℕ, suc, ◌+◌, ◌==◌, max, Bool, true, false, not, ◌||◌, ◌&&◌, List, [], ◌∷◌, length, map, decimal, bytes_eq}
 use Rattle.std.specs.List.{list_any}
 use Rattle.qe_value.specs.declared.value.Plain.{Plain, fold-Plain}
 use Rattle.qe_value.specs.declared.value.Plain.TheOpen.{Plain-F}
@@ -45,6 +46,30 @@ zero_in_fields fs = any_true (map (λ f. holds_zero f.0 || zero_in f.1) fs)
 
 abbrev pub zero_in_items : List Plain → Bool
 zero_in_items vs = any_true (map zero_in vs)
+
+-- whether no name stands twice
+abbrev pub are_distinct : List (List ℕ) → Bool
+are_distinct [] = true
+are_distinct (name ∷ names) = not (list_any (λ other. bytes_eq name other) names) && are_distinct names
+
+abbrev pub all_true : List Bool → Bool
+all_true [] = true
+all_true (b ∷ bs) = b && all_true bs
+
+-- whether names are distinct in each document of the value
+abbrev pub distinct_step : Plain-F Bool → Bool
+distinct_step (Plain-F.Doc fs) = are_distinct (map (λ f. f.0) fs) && all_true (map (λ f. f.1) fs)
+distinct_step (Plain-F.Array bs) = all_true bs
+distinct_step _ = true
+
+unfoldable pub distinct_in : Plain → Bool
+distinct_in = fold-Plain Bool distinct_step
+
+abbrev pub distinct_in_fields : List (List ℕ × Plain) → Bool
+distinct_in_fields fs = are_distinct (map (λ f. f.0) fs) && all_true (map (λ f. distinct_in f.1) fs)
+
+abbrev pub distinct_in_items : List Plain → Bool
+distinct_in_items vs = all_true (map distinct_in vs)
 
 -- the bytes of elements, by their names and the lengths of their values: a type, the name, a 0, and the value
 abbrev pub fields_length : List (List ℕ × ℕ) → ℕ

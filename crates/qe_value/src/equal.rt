@@ -7,7 +7,9 @@ ghost use Rattle.qe_value.specs.Views.{plain};
 use crate::value::{Document, Value, Values};
 
 impl Value {
-    /// Whether the other value is the same, that is, of the same type and with the same bytes.
+    /// Whether the other value is the same. Of values that fit in a document, those are the same that have one type and
+    /// the same bytes. Where a name holds the byte 0 no bytes stand for the value: two that differ may then be written
+    /// alike, and are not equal here.
     pub fn equals(&self, other: &Value) -> bool
         ensures exact { IsTrue result ↔ (self.now ≡ other.now) }
         ensures bytes { (kind : ℕ) (bytes : List ℕ) → IsAlone kind bytes (plain self.now) → (IsTrue result ↔ IsAlone kind bytes (plain other.now)) }

@@ -3,6 +3,7 @@
 ghost use Rattle.std.specs.Prelude.{◌≡◌, ◌<◌, [], ◌∷◌, ◌++◌, false, length, map, slice_get, option_map, Some, IfOk, OnOk, OnErr, IsTrue, IsErrOf, ◌↔◌, true};
 ghost use Rattle.std.specs.Str.{is_utf8};
 ghost use Rattle.std.specs.Option.{option_copied};
+ghost use Rattle.qe_value.specs.Measures.{distinct_in, distinct_in_fields, distinct_in_items};
 ghost use Rattle.qe_value.specs.Names.{Distinct, is_named, value_named};
 ghost use Rattle.qe_value.specs.Views.{plain, field_view, document_in, array_in};
 
@@ -91,6 +92,10 @@ impl Model for Values {
 
     ghost view = { λ a. map plain a.items.items };
 
+    ghost use Rattle.qe_value.specs.Kept.{KeepsItems};
+
+    ghost invariant = { λ a. KeepsItems a.items.items };
+
     ghost size = { size_of_items };
 
     ghost use Rattle.std.proofs.Common.{arith};
@@ -114,9 +119,9 @@ impl Model for Document {
 
     ghost view = { λ a. map field_view a.fields.items };
 
-    ghost use Rattle.qe_value.specs.Names.{Distinct};
+    ghost use Rattle.qe_value.specs.Kept.{KeepsFields};
 
-    ghost invariant = { λ a. Distinct a.fields.items };
+    ghost invariant = { λ a. KeepsFields a.fields.items };
 
     ghost size = { size_of_fields };
 
@@ -185,6 +190,13 @@ impl Values {
         self.items.len()
     }
 
+    // Names are distinct in each document that stands in the array.
+    fn keeps_names(&self)
+        ensures { distinct_in_items self.now ≡ true }
+    {
+        let _items = &self.items;
+    }
+
     /// Whether there is no item.
     pub fn is_empty(&self) -> bool
         ensures { IsTrue result ↔ (self.now ≡ []) }
@@ -211,6 +223,7 @@ impl Values {
         ensures ok { OnOk result (self.new ≡ self.old ++ plain item ∷ []) }
         ensures err { OnErr result (self.new ≡ self.old) }
     {
+        keeps_names(&item);
         self.items.push(item)?;
         Ok(())
     }
@@ -231,13 +244,17 @@ impl Document {
         requires { Distinct fields.items }
         ensures { result ≡ map field_view fields.items }
     {
+        for (_, value) in &fields {
+            keeps_names(value);
+        }
         Document { fields }
     }
 
-    /// The number of fields.
+    /// The number of fields. Their names are distinct, and so are those of each document that stands in this one.
     pub fn len(&self) -> usize
         ensures count { result ≡ length self.now }
         ensures distinct { Distinct self.now }
+        ensures each_level { distinct_in_fields self.now ≡ true }
     {
         self.fields.len()
     }
@@ -302,8 +319,22 @@ impl Document {
         if has_name(&self.fields, name.as_str()) {
             return Err(PushFault::DuplicateName);
         }
+        keeps_names(&value);
         self.fields.push((name, value))?;
         Ok(())
+    }
+}
+
+// A document and an array keep names distinct, so each value has them distinct.
+fn keeps_names(value: &Value)
+    ensures { distinct_in (plain value.now) ≡ true }
+{
+    match value {
+        Value::Doc(document) => {
+            let _count = document.len();
+        }
+        Value::Array(items) => items.keeps_names(),
+        _ => {}
     }
 }
 

@@ -18,7 +18,7 @@ ghost use Rattle.qe_bson.specs.JsonReading.{value_of_json};
 ghost use Rattle.qe_base.specs.Bytes.{are_bytes};
 ghost use Rattle.qe_bson.specs.JsonRound.{typed_step, parts_typed, fields_typed, items_typed};
 ghost use Rattle.qe_bson.specs.JsonRound.{ordered, levels};
-ghost use Rattle.qe_bson.specs.JsonWriting.{long, date, object_id, binary};
+ghost use Rattle.qe_bson.specs.JsonWriting.{long, date, object_id, binary, binary_content};
 ghost use Rattle.qe_bson.specs.JsonWriting.{json_of, json_field, json_array, json_object, json_step, opened};
 
 use crate::extended_json::fault::JsonFault;
@@ -73,13 +73,22 @@ fn object_id(alloc: Global, id: &[u8; 12]) -> Result<Json, AllocError>
     json!(in alloc; {"$oid": digits})
 }
 
-fn binary(alloc: Global, subtype: u8, bytes: &[u8]) -> Result<Json, AllocError>
-    ensures value { IfOk result (λ json. view json ≡ binary subtype bytes.now) }
+// What stands under the name of the form.
+fn binary_content(alloc: Global, subtype: u8, bytes: &[u8]) -> Result<Json, AllocError>
+    ensures value { IfOk result (λ json. view json ≡ binary_content subtype bytes.now) }
     ensures range { OnOk result (typed_step (Plain-F.Binary subtype bytes.now) ≡ true) }
 {
     let text = base64_text(alloc, bytes)?;
     let digits = hex_text(alloc, &[subtype])?;
-    json!(in alloc; {"$binary": {"base64": text, "subType": digits}})
+    json!(in alloc; {"base64": text, "subType": digits})
+}
+
+fn binary(alloc: Global, subtype: u8, bytes: &[u8]) -> Result<Json, AllocError>
+    ensures value { IfOk result (λ json. view json ≡ binary subtype bytes.now) }
+    ensures range { OnOk result (typed_step (Plain-F.Binary subtype bytes.now) ≡ true) }
+{
+    let content = binary_content(alloc, subtype, bytes)?;
+    json!(in alloc; {"$binary": content})
 }
 
 #[cycle(print)]

@@ -46,7 +46,7 @@ pub has_zero-returns-clause-fits : goal.has_zero-returns-clause-fits
 has_zero-returns-clause-fits t c = λ room deep none.
     let items = c.deref-name-items.result.now in
     let seen : map field_view items ≡ c.args.document.now = ap (λ fs. map field_view fs) c.deref-name-items.ensures.value ∙ c.document.view_is in
-    rw (← seen) (fields_fit room (map field_view items) (Distinct-view items (rw c.deref-name-items.ensures.value c.document.invariant)) (rw (← seen) at deep)
+    rw (← seen) (fields_fit room (map field_view items) (Distinct-view items (rw c.deref-name-items.ensures.value c.document.invariant.0)) (rw (← seen) at deep)
     (λ r bound. c.loop-name.invariant.fits r bound (rw (drop_all c.loop-name.name-index items c.loop-name-test.false) tt)))
 
 pub array_has_zero-loop-item-preserved : goal.array_has_zero-loop-item-preserved
