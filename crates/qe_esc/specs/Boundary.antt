@@ -1,4 +1,5 @@
--- Where rows end, as a search may find it that doesn't look at all of them.
+-- Where rows end, as a search may find it that doesn't look at all of them. The order in which it asks, and its limit, are this
+-- project's own.
 use Rattle.std.specs.Prelude.{◌≡◌, ℕ, ◌+◌, ◌^◌, ◌<◌, ◌≤◌, Bool, true, false, ◌⊎◌}
 
 -- `there` says whether the row at a distance is there. The last row is, the next isn't or lies at the limit of all

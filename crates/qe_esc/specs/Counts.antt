@@ -12,5 +12,5 @@ pub record IsTrueCount (rows : Rows) (token : List ℕ) (hop positions : ℕ) : 
   pub positions_end : IsBoundary (row_after rows Position token (base_of rows token hop)) positions
 
 -- how often the token's word was indexed, by such a count
-abbrev pub number_of : Rows → List ℕ → ℕ → ℕ → ℕ
-number_of rows token hop positions = (base_of rows token hop + positions) % 2 ^ 64
+abbrev pub count_of_word : Rows → List ℕ → ℕ → ℕ → ℕ
+count_of_word rows token hop positions = (base_of rows token hop + positions) % 2 ^ 64

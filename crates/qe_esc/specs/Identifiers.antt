@@ -1,4 +1,4 @@
--- Where the rows of a token stand. Libmongocrypt's sums are of 64 bits, and wrap.
+-- Where the rows of a token stand. Sums are of 64 bits and wrap; that is this project's own.
 use Rattle.std.specs.Prelude.{ℕ, ◌+◌, ◌%◌, ◌^◌, List, Bool}
 use Rattle.qe_tokens.specs.Tokens.{esc_tag_of, position_of, anchor_of}
 use Rattle.qe_esc.specs.Rows.{Rows, has}

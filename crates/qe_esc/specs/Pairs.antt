@@ -7,15 +7,22 @@ use Rattle.qe_esc.specs.Rows.{Row, Rows}
 use Rattle.qe_esc.specs.Identifiers.{id_of}
 use Rattle.qe_esc.specs.declared.key.RowKind.TheVariants.{Anchor}
 
--- the value that an anchor has for these two numbers, under an IV
+-- the value of an anchor's row for two numbers, under an IV
 abbrev pub sealed_pair : List ℕ → List ℕ → ℕ → ℕ → List ℕ
 sealed_pair token iv apos cpos = enciphered_pair (esc_value_of token) iv apos cpos
+
+-- the null anchor has both numbers; the other anchors have 0 for the first
+abbrev pub null_value : List ℕ → List ℕ → ℕ → ℕ → List ℕ
+null_value token iv apos cpos = sealed_pair token iv apos cpos
+
+abbrev pub anchor_value : List ℕ → List ℕ → ℕ → List ℕ
+anchor_value token iv cpos = sealed_pair token iv 0 cpos
 
 -- the numbers in a value
 abbrev pub opened_pair : List ℕ → List ℕ → ℕ × ℕ
 opened_pair token value = deciphered_pair (esc_value_of token) value
 
--- the numbers of what stands at an anchor's identifier: 0 and 0 where there is no row, or it has no value
+-- the numbers of what stands at an anchor's identifier: 0 and 0 where there is no row, or it has no value, which is this project's own
 abbrev pub pair_of : List ℕ → Option Row → ℕ × ℕ
 pair_of token (Some (Some value)) = opened_pair token value
 pair_of token row = (0, 0)

@@ -1,6 +1,6 @@
 //! Rows as they will be.
 
-ghost use Rattle.std.specs.Prelude.{◌≡◌, ◌≤◌, Some, None, OnOk, OnErr};
+ghost use Rattle.std.specs.Prelude.{◌≡◌, ◌+◌, ◌≤◌, Some, None, OnOk, OnErr};
 ghost use Rattle.std.specs.FinMap as map;
 ghost use Rattle.qe_esc.specs.Changes.{changed, with_row};
 
@@ -66,7 +66,8 @@ impl Changes {
     /// Carries all changes out. It takes no memory.
     pub fn apply(&self, esc: &mut Esc)
         requires { map.len self.now ≤ esc.old.spare }
-        ensures { esc.new.rows ≡ changed esc.old.rows self.now }
+        ensures rows { esc.new.rows ≡ changed esc.old.rows self.now }
+        ensures room { esc.old.spare ≤ esc.new.spare + map.len self.now }
     {
         for (id, row) in self.rows.iter() {
             match row {
@@ -107,16 +108,16 @@ impl<'a> RowView for Overlay<'a> {
     }
 }
 
-/// A row without a value is to be added, unless its identifier has a row.
-pub fn add_position(rows: &Esc, changes: &mut Changes, id: [u8; 32]) -> Result<(), NoMemory>
+/// Plans a row without a value, unless its identifier will have a row.
+pub fn plan_position(rows: &Esc, changes: &mut Changes, id: [u8; 32]) -> Result<(), NoMemory>
     ensures ok { OnOk result (changed rows.now.rows changes.new ≡ with_row (changed rows.now.rows changes.old) id None) }
     ensures err { OnErr result (changes.new ≡ changes.old) }
 {
-    add_row(rows, changes, id, None)
+    plan_row(rows, changes, id, None)
 }
 
-/// A row with a value is to be added, unless its identifier has a row.
-pub fn add_anchor(
+/// Plans a row with a value, unless its identifier will have a row.
+pub fn plan_anchor(
     rows: &Esc,
     changes: &mut Changes,
     id: [u8; 32],
@@ -125,11 +126,11 @@ pub fn add_anchor(
     ensures ok { OnOk result (changed rows.now.rows changes.new ≡ with_row (changed rows.now.rows changes.old) id (Some value)) }
     ensures err { OnErr result (changes.new ≡ changes.old) }
 {
-    add_row(rows, changes, id, Some(value))
+    plan_row(rows, changes, id, Some(value))
 }
 
-// Adds a row, unless its identifier will have one.
-fn add_row(
+// Plans a row, unless its identifier will have one.
+fn plan_row(
     rows: &Esc,
     changes: &mut Changes,
     id: [u8; 32],

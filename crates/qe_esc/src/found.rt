@@ -1,6 +1,6 @@
 //! What a search finds.
 
-/// The ends of a token's rows. `base + count` is how often its word was indexed, in 64 bits.
+/// The ends of a token's rows. `base + count`, in 64 bits, is the number of its word that the search gives.
 #[derive(Clone, Copy, Debug, PartialEq, Eq)]
 pub struct Emu {
     /// Whether there is a null anchor.

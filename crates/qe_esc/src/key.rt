@@ -2,7 +2,7 @@
 
 ghost use Rattle.std.specs.Prelude.{◌≡◌};
 ghost use Rattle.qe_esc.specs.Identifiers.{id_of};
-ghost use Rattle.qe_esc.specs.Pairs.{sealed_pair, opened_pair};
+ghost use Rattle.qe_esc.specs.Pairs.{null_value, anchor_value, opened_pair};
 
 use qe_seal::{HmacKey, decipher_pair, encipher_pair};
 use qe_tokens::{EscContention, esc_tag, esc_value};
@@ -57,11 +57,18 @@ impl RowKey {
         }
     }
 
-    /// The value of an anchor with these two numbers.
-    pub fn seal(&self, iv: &[u8; 16], apos: u64, cpos: u64) -> [u8; 32]
-        ensures { result ≡ sealed_pair self.now iv.now apos cpos }
+    /// The value of the null anchor: how many anchors a cleanup has taken out, and how many positions are counted.
+    pub fn null_value(&self, iv: &[u8; 16], apos: u64, cpos: u64) -> [u8; 32]
+        ensures { result ≡ null_value self.now iv.now apos cpos }
     {
         encipher_pair(&esc_value(&self.token).0, iv, apos, cpos)
+    }
+
+    /// The value of another anchor: how many positions are counted.
+    pub fn anchor_value(&self, iv: &[u8; 16], cpos: u64) -> [u8; 32]
+        ensures { result ≡ anchor_value self.now iv.now cpos }
+    {
+        self.null_value(iv, 0, cpos)
     }
 
     /// The two numbers in an anchor's value.

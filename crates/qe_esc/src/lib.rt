@@ -22,10 +22,10 @@ mod search;
 mod view;
 
 pub use boundary::hop;
-pub use changes::{Changes, Overlay, add_anchor, add_position};
+pub use changes::{Changes, Overlay, plan_anchor, plan_position};
 pub use collection::{Esc, EscRows};
 pub use found::Emu;
 pub use key::{RowKey, RowKind};
-pub use laws::rows_in_a_row;
+pub use laws::{anchors_open, changed_by_id, digits_counted, rows_in_a_row};
 pub use search::{emu, emu_of};
 pub use view::RowView;

@@ -4,11 +4,13 @@ use Rattle.std.proofs.lemmas.Bool.{cases_Bool, cond_both, eqb-true}
 use Rattle.std.proofs.lemmas.List.{append-nil, map-append}
 use Rattle.qe_chains.specs.Pairs.{tags_of, of_others}
 use Rattle.qe_store.specs.declared.stored.Stored.{Stored}
-use Rattle.qe_store.specs.Kept.{document_at, without, with_new, Above, Rising, Below, tags_in, id_pair, paired, Holds}
-use Rattle.qe_store.specs.Keys.{key_of}
+use Rattle.qe_value.specs.declared.value.Value.{Value}
+use Rattle.qe_store.specs.Kept.{document_at, without, with_new}
+use Rattle.qe_store.specs.Parts.{IsNew, Above, Rising, Below, AreDistinct, ids_of, tags_in, id_pair, paired, Holds}
+use Rattle.qe_store.specs.IdHash.{key_of}
 use Rattle.qe_store.proofs.ListLemmas.{eq_sym, tags_append, tags_here, tags_there, others_here, others_there}
 
-both : (b : Bool) → b ≡ true → b ≡ false → ⊥
+pub both : (b : Bool) → b ≡ true → b ≡ false → ⊥
 both b t f = cc
 
 pub ne_false : (a b : ℕ) → (a ≡ b → ⊥) → nat_eq a b ≡ false
@@ -26,6 +28,15 @@ rising_push m s (d ∷ docs) b r = (above_push d.0 m s docs b.0 r.0, rising_push
 below_push : (m : ℕ) (s : Stored) (docs : List (ℕ × Stored)) → Below m docs → Below (m + 1) (docs ++ (m, s) ∷ [])
 below_push m s [] b = (omega arith, tt)
 below_push m s (d ∷ docs) b = (omega (arith, b.0), below_push m s docs b.1)
+
+-- an id that no other has
+new_push : (id : Value) (m : ℕ) (s : Stored) (docs : List (ℕ × Stored)) → IsNew id docs → (s.id ≡ id → ⊥) → IsNew id (docs ++ (m, s) ∷ [])
+new_push id m s [] new other = (other, tt)
+new_push id m s (d ∷ docs) new other = (new.0, new_push id m s docs new.1 other)
+
+distinct_push : (m : ℕ) (s : Stored) (docs : List (ℕ × Stored)) → AreDistinct (ids_of docs) → IsNew s.id docs → AreDistinct (ids_of (docs ++ (m, s) ∷ []))
+distinct_push m s [] apart new = (tt, tt)
+distinct_push m s (d ∷ docs) apart new = (new_push d.1.id m s docs apart.0 (λ same. new.0 (sym same)), distinct_push m s docs apart.1 new.1)
 
 -- no document has a number that all are below
 pub none_at : (m : ℕ) (docs : List (ℕ × Stored)) → Below m docs → document_at m docs ≡ None
@@ -48,11 +59,12 @@ at_push_there : (n m : ℕ) (s : Stored) (docs : List (ℕ × Stored)) → nat_e
 at_push_there n m s [] e = ap (λ t. cond t (Some s) None) e
 at_push_there n m s (d ∷ docs) e = ap (λ rest. cond (nat_eq n d.0) (Some d.1) rest) (at_push_there n m s docs e)
 
-pub inserted : (docs : List (ℕ × Stored)) (made : ℕ) (ids tags ids' tags' : List (List ℕ × ℕ)) (s : Stored) → Holds docs made ids tags
+pub inserted : (docs : List (ℕ × Stored)) (made : ℕ) (ids tags ids' tags' : List (List ℕ × ℕ)) (s : Stored) → Holds docs made ids tags → IsNew s.id docs
     → ids' ≡ ids ++ (key_of s.id, made) ∷ [] → tags' ≡ tags ++ map (paired made) s.tags → Holds (docs ++ (made, s) ∷ []) (made + 1) ids' tags'
-inserted docs made ids tags ids' tags' s h i t = record {
+inserted docs made ids tags ids' tags' s h new i t = record {
   rising = rising_push made s docs h.below h.rising;
   below = below_push made s docs h.below;
+  distinct = distinct_push made s docs h.distinct new;
   ids = i ∙ ap (λ front. front ++ (key_of s.id, made) ∷ []) h.ids ∙ sym (map-append id_pair docs ((made, s) ∷ []));
   tags = λ n. ap (tags_of n) t ∙ tags_append n tags (map (paired made) s.tags) ∙ at n;
 }
@@ -79,6 +91,15 @@ rising_without m (d ∷ docs) r = cond_both (not (nat_eq m d.0)) (d ∷ without 
 below_without : (n m : ℕ) (docs : List (ℕ × Stored)) → Below n docs → Below n (without m docs)
 below_without n m [] b = tt
 below_without n m (d ∷ docs) b = cond_both (not (nat_eq m d.0)) (d ∷ without m docs) (without m docs) (Below n) (λ _. (b.0, below_without n m docs b.1)) (λ _. below_without n m docs b.1)
+
+new_without : (id : Value) (m : ℕ) (docs : List (ℕ × Stored)) → IsNew id docs → IsNew id (without m docs)
+new_without id m [] new = tt
+new_without id m (d ∷ docs) new = cond_both (not (nat_eq m d.0)) (d ∷ without m docs) (without m docs) (IsNew id) (λ _. (new.0, new_without id m docs new.1)) (λ _. new_without id m docs new.1)
+
+distinct_without : (m : ℕ) (docs : List (ℕ × Stored)) → AreDistinct (ids_of docs) → AreDistinct (ids_of (without m docs))
+distinct_without m [] apart = tt
+distinct_without m (d ∷ docs) apart =
+    cond_both (not (nat_eq m d.0)) (d ∷ without m docs) (without m docs) (λ ds. AreDistinct (ids_of ds)) (λ _. (new_without d.1.id m docs apart.0, distinct_without m docs apart.1)) (λ _. distinct_without m docs apart.1)
 
 ids_without : (m : ℕ) (docs : List (ℕ × Stored)) → of_others m (map id_pair docs) ≡ map id_pair (without m docs)
 ids_without m [] = refl
@@ -111,6 +132,7 @@ pub removed : (docs : List (ℕ × Stored)) (made number : ℕ) (ids tags ids' t
 removed docs made number ids tags ids' tags' h i t = record {
   rising = rising_without number docs h.rising;
   below = below_without made number docs h.below;
+  distinct = distinct_without number docs h.distinct;
   ids = i ∙ ap (of_others number) h.ids ∙ ids_without number docs;
   tags = λ n. ap (tags_of n) t ∙ at n;
 }
@@ -159,17 +181,19 @@ above_none m (d ∷ docs) a =
 abbrev pub HasSameId : Stored → Option Stored → Type 0
 HasSameId s o = IsSomeAnd o (λ old. old.id ≡ s.id)
 
-ids_with : (m : ℕ) (s : Stored) (docs : List (ℕ × Stored)) → Rising docs → HasSameId s (document_at m docs) → map id_pair (with_new m s docs) ≡ map id_pair docs
-ids_with m s [] r h = refl
-ids_with m s (d ∷ docs) r h = elim (cases_Bool (nat_eq m d.0)) [
+-- what is read of each document's number and id stays
+map_with : {X : Type 0} (f : ℕ × Stored → X) → ((n : ℕ) (a b : Stored) → a.id ≡ b.id → f (n, a) ≡ f (n, b)) → (m : ℕ) (s : Stored) (docs : List (ℕ × Stored)) → Rising docs → HasSameId s (document_at m docs)
+    → map f (with_new m s docs) ≡ map f docs
+map_with f same m s [] r h = refl
+map_with f same m s (d ∷ docs) r h = elim (cases_Bool (nat_eq m d.0)) [
   | inl t ↦
       let here : d.1.id ≡ s.id = subst (HasSameId s) (ap (λ b. cond b (Some d.1) (document_at m docs)) t) h in
-      ap (λ b. id_pair (cond b (d.0, s) d) ∷ map id_pair (with_new m s docs)) t
-      ∙ ap (λ id. (key_of id, d.0) ∷ map id_pair (with_new m s docs)) (sym here)
-      ∙ ap (λ rest. id_pair d ∷ map id_pair rest) (above_other m s docs (subst (λ k. Above k docs) (sym (eqb-true m d.0 t)) r.0))
-  | inr f ↦
-      ap (λ b. id_pair (cond b (d.0, s) d) ∷ map id_pair (with_new m s docs)) f
-      ∙ ap (λ rest. id_pair d ∷ rest) (ids_with m s docs r.1 (subst (HasSameId s) (ap (λ b. cond b (Some d.1) (document_at m docs)) f) h))
+      ap (λ b. f (cond b (d.0, s) d) ∷ map f (with_new m s docs)) t
+      ∙ ap (λ x. x ∷ map f (with_new m s docs)) (sym (same d.0 d.1 s here))
+      ∙ ap (λ rest. f d ∷ map f rest) (above_other m s docs (subst (λ k. Above k docs) (sym (eqb-true m d.0 t)) r.0))
+  | inr e ↦
+      ap (λ b. f (cond b (d.0, s) d) ∷ map f (with_new m s docs)) e
+      ∙ ap (λ rest. f d ∷ rest) (map_with f same m s docs r.1 (subst (HasSameId s) (ap (λ b. cond b (Some d.1) (document_at m docs)) e) h))
 ]
 
 at_with_here : (n m : ℕ) (s : Stored) (docs : List (ℕ × Stored)) → nat_eq m n ≡ true → HasSameId s (document_at m docs) → document_at n (with_new m s docs) ≡ Some s
@@ -205,7 +229,8 @@ pub replaced : (docs : List (ℕ × Stored)) (made number : ℕ) (ids tags tags'
 replaced docs made number ids tags tags' s h id t = record {
   rising = rising_with number s docs h.rising;
   below = below_with made number s docs h.below;
-  ids = h.ids ∙ sym (ids_with number s docs h.rising id);
+  distinct = subst AreDistinct (sym (map_with (λ d. d.1.id) (λ n a b same. same) number s docs h.rising id)) h.distinct;
+  ids = h.ids ∙ sym (map_with id_pair (λ n a b same. ap (λ i. (key_of i, n)) same) number s docs h.rising id);
   tags = λ n. ap (tags_of n) t ∙ tags_append n (of_others number tags) (map (paired number) s.tags) ∙ at n;
 }
   where

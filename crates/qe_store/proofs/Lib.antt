@@ -2,3 +2,4 @@ mod ListLemmas
 mod HoldLemmas
 mod PlaceLemmas
 mod IdLemmas
+mod MatchLemmas

@@ -4,7 +4,7 @@ use Rattle.std.proofs.lemmas.Bool.{cases_Bool, eqb-true, eq-eqb}
 use Rattle.std.proofs.lemmas.List.{map-append}
 use Rattle.std.proofs.lemmas.List.Elements.{filter-append}
 use Rattle.qe_chains.specs.Pairs.{tags_of, of_document, of_others}
-use Rattle.qe_store.specs.Kept.{paired}
+use Rattle.qe_store.specs.Parts.{paired}
 
 pub eq_sym : (a b : ℕ) (v : Bool) → nat_eq a b ≡ v → nat_eq b a ≡ v
 eq_sym a b true e = eq-eqb b a (sym (eqb-true a b e))

@@ -1,7 +1,8 @@
 -- Where a number stands among documents in rising number.
-use Rattle.std.proofs.Common.{◌≡◌, ℕ, zero, suc, ◌<◌, ◌≤◌, Bool, true, false, cond, not, nat_eq, List, [], ◌∷◌, length, get_or, set, None, Some, Result, Ok, Err, refl, sym, ◌∙◌, ap, subst, arith}
+use Rattle.std.proofs.Common.{◌≡◌, ℕ, zero, suc, ◌<◌, ◌≤◌, Bool, true, false, cond, not, nat_eq, List, [], ◌∷◌, length, get_or, set, map, ◌+◌, None, Some, Result, Ok, Err, refl, sym, ◌∙◌, ap, subst, arith}
 use Rattle.std.specs.List.{remove}
-use Rattle.std.specs.List.Sorted.{IsSearchInRange, IsBinarySearchResult, IsNonDecreasingBy}
+use Rattle.std.proofs.lemmas.List.{get_or-map, length-map}
+use Rattle.std.specs.List.Sorted.{IsStrictlyIncreasing, IsSearchInRange, IsBinarySearchResult, IsNonDecreasingBy}
 use Rattle.std.specs.Ordering.{nat_cmp, ordering_index}
 use Rattle.std.specs.Result.{result_ok}
 use Rattle.std.proofs.lemmas.Bool.{eq-eqb}
@@ -10,7 +11,8 @@ use Rattle.std.proofs.lemmas.Cmp.{ranked}
 use Rattle.std.proofs.lemmas.List.Sorted.{IsNonDecreasingBy-from_default}
 use Rattle.qe_value.specs.declared.value.Value.TheVariants.{Null}
 use Rattle.qe_store.specs.declared.stored.Stored.{Stored}
-use Rattle.qe_store.specs.Kept.{document_at, with_new, without, Above, Rising, IsPlace}
+use Rattle.qe_store.specs.Kept.{document_at, with_new, without}
+use Rattle.qe_store.specs.Parts.{Above, Rising, IsPlace}
 use Rattle.qe_store.proofs.HoldLemmas.{ne_false, above_other}
 
 -- the document that is read past the end
@@ -119,3 +121,9 @@ module _ (docs : List (ℕ × Stored)) (rising : Rising docs) (k : ℕ) where
 
       greater : (j : ℕ) → at ≤ j → j < length docs → k < key_at docs j
       greater j le lt = ranked _ k _ (sym ((parted comparisons_rise).1 j nothing le lt))
+
+pub rising_of_each : (docs : List (ℕ × Stored)) → Rising docs → IsStrictlyIncreasing (map (λ d. d.0) docs)
+rising_of_each docs rising k within =
+    let inside : k + 1 < length docs = omega (arith, within, length-map docs (λ (d : ℕ × Stored). d.0)) in
+    let below = rising_at docs rising k (k + 1) nothing (omega arith) inside in
+    omega (arith, below, get_or-map (λ (d : ℕ × Stored). d.0) docs k nothing 0 (omega arith), get_or-map (λ (d : ℕ × Stored). d.0) docs (k + 1) nothing 0 inside)

@@ -1,14 +1,14 @@
 //! The key by which an id is found.
 
 ghost use Rattle.std.specs.Prelude.{◌≡◌};
-ghost use Rattle.qe_store.specs.Keys.{key_hash, key_of};
+ghost use Rattle.qe_store.specs.IdHash.{key_hash, key_of};
 
 use qe_base::write_at;
 use qe_document::Value;
 use std::hash::{DefaultHasher, Hash, Hasher};
 
 // The hash of an id's type and bytes.
-#[tactic(auto, unfolding(crate::specs::Keys::key_hash, crate::specs::Keys::key_input))]
+#[tactic(auto, unfolding(crate::specs::IdHash::key_hash, crate::specs::IdHash::key_input))]
 fn hash_of(id: &Value) -> u64
     ensures { result ≡ key_hash id.now }
 {
@@ -69,7 +69,7 @@ fn hash_of(id: &Value) -> u64
 }
 
 /// The key of an id: equal ids have equal keys.
-#[tactic(auto, unfolding(crate::specs::Keys::key_of))]
+#[tactic(auto, unfolding(crate::specs::IdHash::key_of))]
 pub(crate) fn key_of(id: &Value) -> [u8; 32]
     ensures { result ≡ key_of id.now }
 {

@@ -1,7 +1,7 @@
 //! Where a document stands among documents in rising number.
 
 ghost use Rattle.std.specs.Prelude.{◌≡◌};
-ghost use Rattle.qe_store.specs.Kept.{Rising, IsPlace};
+ghost use Rattle.qe_store.specs.Parts.{Rising, IsPlace};
 
 use crate::stored::Stored;
 

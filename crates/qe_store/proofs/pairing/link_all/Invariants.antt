@@ -1,5 +1,5 @@
 use Rattle.std.proofs.Common.{◌≡◌, ◌+◌, ◌≤◌, ◌++◌, map, take}
-use Rattle.qe_store.specs.Kept.{paired}
+use Rattle.qe_store.specs.Parts.{paired}
 use Rattle.qe_store.proofs.pairing.link_all.Given as goal
 
 abbrev pub invariant-loop-tag : goal.invariant-loop-tag

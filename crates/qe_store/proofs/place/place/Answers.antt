@@ -1,7 +1,7 @@
 use Rattle.std.proofs.Common.{rules, subst, sym, ℕ}
 use Rattle.std.proofs.lemmas.List.Sorted.{answers_always}
 use Rattle.qe_store.specs.declared.stored.Stored.{Stored}
-use Rattle.qe_store.specs.Kept.{IsPlace}
+use Rattle.qe_store.specs.Parts.{IsPlace}
 use Rattle.qe_store.proofs.PlaceLemmas.{searched}
 use Rattle.qe_store.proofs.place.place.Goals as goal
 

@@ -1,5 +1,5 @@
 use Rattle.std.proofs.Common.{subst}
-use Rattle.qe_store.specs.Kept.{IsPlace}
+use Rattle.qe_store.specs.Parts.{IsPlace}
 use Rattle.qe_store.proofs.PlaceLemmas.{set_with, none_with}
 use Rattle.qe_store.proofs.store.put.Goals as goal
 

@@ -1,5 +1,5 @@
 use Rattle.std.proofs.Common.{◌∙◌, subst, None, Some}
-use Rattle.qe_store.specs.Kept.{IsPlace}
+use Rattle.qe_store.specs.Parts.{IsPlace}
 use Rattle.qe_store.proofs.PlaceLemmas.{remove_at, none_without}
 use Rattle.qe_store.proofs.store.take_out.Goals as goal
 

@@ -1,5 +1,6 @@
 use Rattle.std.proofs.Common.{◌≡◌, ℕ, true, length}
-use Rattle.qe_store.proofs.IdLemmas.{HasId, among}
+use Rattle.qe_store.specs.Kept.{HasId}
+use Rattle.qe_store.proofs.IdLemmas.{among}
 use Rattle.qe_store.proofs.store.Store.number_of.Given as goal
 
 abbrev pub invariant-loop-link : goal.invariant-loop-link

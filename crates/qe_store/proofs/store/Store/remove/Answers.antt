@@ -1,5 +1,5 @@
 use Rattle.std.proofs.Common.{subst, sym}
-use Rattle.qe_store.specs.Kept.{Holds}
+use Rattle.qe_store.specs.Parts.{Holds}
 use Rattle.qe_store.proofs.HoldLemmas.{removed}
 use Rattle.qe_store.proofs.store.Store.remove.Goals as goal
 

@@ -4,7 +4,7 @@ use Rattle.std.specs.FinMap.{insert}
 use Rattle.qe_esc.specs.Changes.{changed}
 use Rattle.std.proofs.lemmas.Result.{on_ok_weaker}
 use Rattle.qe_esc.proofs.ChangesLemmas.{changed-insert, with_row-new}
-use Rattle.qe_esc.proofs.changes.add_row.Goals as goal
+use Rattle.qe_esc.proofs.changes.plan_row.Goals as goal
 
 pub returns-clause-ok : goal.returns-clause-ok
 returns-clause-ok c =

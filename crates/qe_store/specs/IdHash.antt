@@ -1,4 +1,5 @@
--- The key by which an id is found: a hash of its type and its bytes. Equal ids have equal keys; other ids may too.
+-- The key by which a store finds an id, no part of what it promises: a hash of the type and the bytes. Equal ids have equal keys; other
+-- ids may too.
 use Rattle.std.specs.Prelude.{ℕ, List, ◌++◌, length, replicate}
 use Rattle.std.specs.List.{fold}
 use Rattle.std.specs.Int.{to_be_bytes, w64}
