@@ -4,15 +4,15 @@ use Rattle.std.specs.Prelude.{slice_index, ◌==◌}
 use Rattle.std.proofs.lemmas.List.{take_at}
 use Rattle.std.proofs.Math.Seq.{get_or-append_seam}
 use Rattle.qe_seal.proofs.EncipheredLemmas.{deciphered-enciphered}
-use Rattle.qe_ecoc.specs.Forms.{cipher_in}
+use Rattle.qe_ecoc.specs.Forms.{cipher_from}
 use Rattle.qe_ecoc.specs.Opening.{OpensWhatIsWritten}
 use Rattle.qe_ecoc.specs.declared.forms.Cipher.TheVariants.{Old, Leaf}
 
-pub cipher_in-old : (bytes : List ℕ) → length bytes ≡ 48 → cipher_in bytes ≡ Some (Old bytes)
-cipher_in-old bytes long = ap (λ n. cond (n == 48) (Some (Old bytes)) (cond (n == 49) (Some (Leaf bytes)) None)) long
+pub cipher_from-old : (bytes : List ℕ) → length bytes ≡ 48 → cipher_from bytes ≡ Some (Old bytes)
+cipher_from-old bytes long = ap (λ n. cond (n == 48) (Some (Old bytes)) (cond (n == 49) (Some (Leaf bytes)) None)) long
 
-pub cipher_in-leaf : (bytes : List ℕ) → length bytes ≡ 49 → cipher_in bytes ≡ Some (Leaf bytes)
-cipher_in-leaf bytes long = ap (λ n. cond (n == 48) (Some (Old bytes)) (cond (n == 49) (Some (Leaf bytes)) None)) long
+pub cipher_from-leaf : (bytes : List ℕ) → length bytes ≡ 49 → cipher_from bytes ≡ Some (Leaf bytes)
+cipher_from-leaf bytes long = ap (λ n. cond (n == 48) (Some (Old bytes)) (cond (n == 49) (Some (Leaf bytes)) None)) long
 
 -- the byte behind a token
 behind : (token : List ℕ) (leaf : ℕ) → length token ≡ 32 → slice_index (token ++ leaf ∷ []) 32 ≡ leaf

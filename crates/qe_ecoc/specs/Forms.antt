@@ -3,10 +3,10 @@ use Rattle.std.specs.Prelude.{ℕ, List, length, Option, Some, None, ◌==◌, i
 use Rattle.qe_ecoc.specs.declared.forms.Cipher.{Cipher}
 use Rattle.qe_ecoc.specs.declared.forms.Cipher.TheVariants.{Old, Leaf}
 
-abbrev pub bytes_of : Cipher → List ℕ
-bytes_of (Old bytes) = bytes
-bytes_of (Leaf bytes) = bytes
+abbrev pub cipher_bytes : Cipher → List ℕ
+cipher_bytes (Old bytes) = bytes
+cipher_bytes (Leaf bytes) = bytes
 
 -- the value that these bytes are, if they have one of its lengths
-abbrev pub cipher_in : List ℕ → Option Cipher
-cipher_in bytes = if length bytes == 48 then Some (Old bytes) else (if length bytes == 49 then Some (Leaf bytes) else None)
+abbrev pub cipher_from : List ℕ → Option Cipher
+cipher_from bytes = if length bytes == 48 then Some (Old bytes) else (if length bytes == 49 then Some (Leaf bytes) else None)

@@ -1,9 +1,9 @@
 //! The two lengths of a row's value.
 
-ghost use Rattle.std.specs.Prelude.{◌≡◌};
-ghost use Rattle.qe_ecoc.specs.Forms.{bytes_of, cipher_in};
+ghost use Rattle.std.specs.Prelude.{◌≡◌, Some};
+ghost use Rattle.qe_ecoc.specs.Forms.{cipher_bytes, cipher_from};
 
-use qe_base::array_at;
+use qe_base::{array_at, bytes_of};
 
 /// The cipher of a token, an IV before it, without or with a leaf byte.
 #[derive(Clone, Copy, Debug, PartialEq, Eq)]
@@ -17,7 +17,7 @@ pub enum Cipher {
 impl Cipher {
     /// The value that these bytes are. None where they have neither length.
     pub fn from_bytes(bytes: &[u8]) -> Option<Cipher>
-        ensures { result ≡ cipher_in bytes.now }
+        ensures { result ≡ cipher_from bytes.now }
     {
         match bytes.len() {
             48 => Some(Cipher::Old(array_at(bytes, 0))),
@@ -26,13 +26,14 @@ impl Cipher {
         }
     }
 
-    /// Its bytes.
+    /// Its bytes, of which it is the value.
     pub fn bytes(&self) -> &[u8]
-        ensures { result.now ≡ bytes_of self.now }
+        ensures bytes { result.now ≡ cipher_bytes self.now }
+        ensures again { cipher_from result.now ≡ Some self.now }
     {
         match self {
-            Cipher::Old(bytes) => bytes,
-            Cipher::Leaf(bytes) => bytes,
+            Cipher::Old(bytes) => bytes_of(bytes),
+            Cipher::Leaf(bytes) => bytes_of(bytes),
         }
     }
 }

@@ -1,5 +1,5 @@
 -- Blobs, both ways: a document is read of a blob exactly where the blob is one of it.
-use Rattle.std.proofs.Common.{◌≡◌, ℕ, suc, ◌-◌, ◌==◌, Bool, true, false, List, [], ◌∷◌, length, refl, ap, sym, subst, ◌∙◌, if◌then◌else◌, Result, Ok, Err, eq-eqb}
+use Rattle.std.proofs.Common.{◌≡◌, ℕ, suc, ◌-◌, ◌==◌, Bool, true, false, List, [], ◌∷◌, length, refl, ap, subst, ◌∙◌, if◌then◌else◌, Result, Ok, Err, eq-eqb}
 use Rattle.std.proofs.lemmas.Bool.{cond-true, eqb-true}
 use Rattle.qe_value.specs.declared.fault.BsonFault.{BsonFault}
 use Rattle.qe_document.specs.Names.{Distinct}

@@ -1,5 +1,5 @@
 -- The pass over a document: elements that are filled into slots one by one fill them as look-ups by name would.
-use Rattle.std.proofs.Common.{◌≡◌, ℕ, suc, ◌+◌, Bool, true, false, ◌||◌, List, [], ◌∷◌, ◌++◌, length, map, refl, ap, sym, ◌∙◌, inl, inr, arith, if◌then◌else◌, Option, None, Some, Result, Ok, Err, append_assoc, length-append}
+use Rattle.std.proofs.Common.{◌≡◌, ℕ, suc, ◌+◌, Bool, true, false, ◌||◌, List, [], ◌∷◌, ◌++◌, length, refl, ap, sym, ◌∙◌, inl, inr, arith, if◌then◌else◌, subst, Option, None, Some, Result, Ok, Err, append_assoc, length-append}
 use Rattle.std.specs.Prelude.{bytes_eq, replicate, slice_set}
 use Rattle.std.proofs.Math.Seq.{set-append_seam}
 use Rattle.std.proofs.lemmas.List.{length-replicate}
@@ -8,8 +8,10 @@ use Rattle.std.proofs.lemmas.Slice.Eq.{bytes_eq-Decides}
 use Rattle.qe_document.specs.Names.{Distinct, is_named, value_named}
 use Rattle.qe_value.specs.declared.value.Plain.{Plain}
 use Rattle.qe_layout.specs.declared.malformed.Kind.{Kind}
-use Rattle.qe_layout.specs.Refusal.{Refusal, bind, map_read}
-use Rattle.qe_layout.specs.Layouts.{Element, Reader, Rows, checked, lack, complete, part_in, slot, slots_of, arranged, place_from, with_slot, filled_one, filled, complete_in}
+use Rattle.qe_layout.specs.declared.malformed.Malformed.{Malformed}
+use Rattle.qe_layout.specs.Refusal.{Refusal, Reads, bind, map_read}
+use Rattle.qe_layout.specs.Layouts.{Element, Reader, Rows, checked, lack, complete, part_in, slot, slots_of, arranged, place_from}
+use Rattle.qe_layout.proofs.Pass.{with_slot, filled, complete_in}
 
 -- two steps that pass
 pub read_both : {A : Type 0} (read : Result A Refusal) (rest : Result (Unit {0}) Refusal) → bind read (λ _. rest) ≡ Ok tt → ((part : A) × (read ≡ Ok part)) × (rest ≡ Ok tt)
@@ -173,20 +175,27 @@ complete-slots {A} reads (row ∷ rows) elements clean =
         let read = checked-found reads row.0 elements value clean is in
         ap (λ r. lack row.0 row.1 (part_in r)) read.1
 
--- the pass and the test of the rows are the definition
-pub filled-arranged : {A : Type 0} (reads : Reader A) (rows : Rows) (elements : List Element) → Distinct rows → Distinct elements
-    → bind (filled reads rows elements (replicate (length rows) None)) (λ slots. bind (complete_in rows slots) (λ _. Ok slots)) ≡ arranged reads rows elements
-filled-arranged {A} reads rows elements apart distinct =
-    ap (λ all. bind all (λ slots. bind (complete_in rows slots) (λ _. Ok slots)))
-    (filled-poured reads rows elements (replicate (length rows) None) (length-replicate (length rows) None)
-    ∙ ap (λ slots. bind (checked reads elements) (λ _. Ok slots)) (poured-slots reads rows elements apart distinct))
-    ∙ by_clean (checked reads elements) refl
-  where
-    by_clean : (clean : Result (Unit {0}) Refusal) → checked reads elements ≡ clean
-        → bind (bind clean (λ _. Ok (slots_of reads rows elements))) (λ slots. bind (complete_in rows slots) (λ _. Ok slots))
-        ≡ bind clean (λ _. bind (complete rows elements) (λ _. Ok (slots_of reads rows elements)))
-    by_clean (Err refusal) is = refl
-    by_clean (Ok _) is = ap (λ lacks. bind lacks (λ _. Ok (slots_of reads rows elements))) (complete-slots reads rows elements is)
+-- the pass fills the slots as look-ups by name would
+pub filled-slots : {A : Type 0} (reads : Reader A) (rows : Rows) (elements : List Element) → Distinct rows → Distinct elements
+    → filled reads rows elements (replicate (length rows) None) ≡ bind (checked reads elements) (λ _. Ok (slots_of reads rows elements))
+filled-slots reads rows elements apart distinct =
+    filled-poured reads rows elements (replicate (length rows) None) (length-replicate (length rows) None)
+    ∙ ap (λ slots. bind (checked reads elements) (λ _. Ok slots)) (poured-slots reads rows elements apart distinct)
+
+-- what the slots of a document lack, it lacks
+pub tells-complete : {A : Type 0} (reads : Reader A) (rows : Rows) (slots : List (Option A)) (elements : List Element) (result : Result (Unit {0}) Malformed)
+    → slots ≡ slots_of reads rows elements → checked reads elements ≡ Ok tt → Reads result (complete_in rows slots) → Reads result (complete rows elements)
+tells-complete reads rows slots elements result filled clean tells =
+    subst (λ (due : Result (Unit {0}) Refusal). Reads result due) (ap (complete_in rows) filled ∙ complete-slots reads rows elements clean) tells
+
+-- the elements of what was filled are read, and the slots are theirs
+pub filled-both : {S : Type 0} (clean : Result (Unit {0}) Refusal) (due slots : S) → bind clean (λ _. Ok due) ≡ Ok slots → (clean ≡ Ok tt) × (slots ≡ due)
+filled-both (Ok _) due slots is = (refl, cc)
+filled-both (Err refusal) due slots is = absurd (cc)
+
+pub arranged-ok : {A : Type 0} (reads : Reader A) (rows : Rows) (elements : List Element) (slots : List (Option A)) → checked reads elements ≡ Ok tt → complete rows elements ≡ Ok tt
+    → slots ≡ slots_of reads rows elements → arranged reads rows elements ≡ Ok slots
+arranged-ok reads rows elements slots clean full is = rw (clean, full, is) refl
 
 -- the slots of what is arranged
 pub arranged-slots : {A : Type 0} (reads : Reader A) (rows : Rows) (elements : List Element) (slots : List (Option A)) → arranged reads rows elements ≡ Ok slots

@@ -1,12 +1,12 @@
 -- The loop over the items of an array.
 use Rattle.std.proofs.Common.{◌≡◌, ℕ, ◌+◌, List, [], ◌∷◌, ◌++◌, length, refl, ap, sym, ◌∙◌, append_assoc, length-append, Result, Ok, Err}
-use Rattle.std.specs.Prelude.{decimal, IsErr}
+use Rattle.std.specs.Prelude.{decimal}
 use Rattle.std.proofs.lemmas.List.{append-nil}
 use Rattle.qe_base.specs.Answers.{Refuses}
 use Rattle.qe_value.specs.declared.value.Plain.{Plain}
 use Rattle.qe_layout.specs.declared.malformed.Malformed.{Malformed}
 use Rattle.qe_layout.specs.declared.malformed.Malformed.TheVariants.{At, NoMemory}
-use Rattle.qe_layout.specs.Refusal.{Refusal, refusal_of, Reads, bind, map_read}
+use Rattle.qe_layout.specs.Refusal.{Refusal, refusal_of, bind, map_read}
 use Rattle.qe_layout.specs.Layouts.{Reader}
 use Rattle.qe_layout.specs.Documents.{each_read}
 

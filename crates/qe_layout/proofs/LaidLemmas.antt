@@ -52,13 +52,20 @@ checked-only reads rows (e ∷ elements) knows clean =
     let both = read_both (reads e.0 e.1) (checked reads elements) clean in
     (knows e.0 e.1 both.0.0 both.0.1, checked-only reads rows elements knows both.1)
 
+-- the slots that a document is read into are those of its elements
+pub arranged_slots : {A : Type 0} (reads : Reader A) (rows : Rows) (slots : List (Option A)) (elements : List Element) → arranged reads rows elements ≡ Ok slots
+    → AreSlots reads elements rows slots
+arranged_slots reads rows slots elements is =
+    let passes = arranged-passes reads rows elements slots is in
+    rw (arranged-slots reads rows elements slots is) (slots-are reads rows elements passes.0 passes.1)
+
 -- a document that is read is laid out
 pub arranged_laid : {A : Type 0} (reads : Reader A) (rows : Rows) (slots : List (Option A)) (elements : List Element) → Distinct elements → Knows reads rows
     → arranged reads rows elements ≡ Ok slots → IsLaid reads rows slots elements
 arranged_laid reads rows slots elements distinct knows is =
     let passes = arranged-passes reads rows elements slots is in
     record {
-      each = rw (arranged-slots reads rows elements slots is) (slots-are reads rows elements passes.0 passes.1);
+      each = arranged_slots reads rows slots elements is;
       only = checked-only reads rows elements knows passes.0;
       distinct = distinct;
     }

@@ -1,3 +1,4 @@
+pub mod Pass
 pub mod FillLemmas
 pub mod RowLemmas
 pub mod PlainLemmas
@@ -5,3 +6,4 @@ pub mod ItemLemmas
 pub mod LaidLemmas
 pub mod WrittenLemmas
 pub mod BlobLemmas
+pub mod CutLemmas

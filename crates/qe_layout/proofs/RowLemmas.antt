@@ -1,5 +1,5 @@
 -- Rows by their places.
-use Rattle.std.proofs.Common.{◌≡◌, ℕ, zero, suc, ◌+◌, ◌<◌, ◌≤◌, List, [], ◌∷◌, length, drop, refl, ap, sym, ◌∙◌, arith, add-one, if◌then◌else◌, Option, None, Some, Result, Ok, Err}
+use Rattle.std.proofs.Common.{◌≡◌, ℕ, zero, suc, ◌+◌, ◌≤◌, List, [], ◌∷◌, length, drop, refl, ap, sym, ◌∙◌, arith, add-one, if◌then◌else◌, Option, None, Some, Result, Ok, Err}
 use Rattle.std.specs.Prelude.{bytes_eq, slice_get}
 use Rattle.std.proofs.lemmas.List.{drop_all}
 use Rattle.qe_layout.specs.declared.malformed.Kind.{Kind}
@@ -8,7 +8,8 @@ use Rattle.qe_base.specs.Answers.{Refuses}
 use Rattle.qe_layout.specs.declared.malformed.Malformed.{Malformed}
 use Rattle.qe_layout.specs.declared.malformed.Malformed.TheVariants.{At, NoMemory}
 use Rattle.qe_layout.specs.Refusal.{Refusal, refusal_of, Reads, bind}
-use Rattle.qe_layout.specs.Layouts.{Rows, lack, in_slot, place_from, complete_in}
+use Rattle.qe_layout.specs.Layouts.{Rows, lack, in_slot, place_from}
+use Rattle.qe_layout.proofs.Pass.{complete_in}
 
 -- a refusal of the first of two steps is that of both
 pub refuses-bind : {A B : Type 0} (fault : Malformed) (due : Result A Refusal) (on : A → Result B Refusal) → Refuses (refusal_of fault) due
@@ -20,6 +21,14 @@ pub stops : {B : Type 0} (result : Result B Malformed) (due : Result B Refusal) 
     → Reads result (bind due on)
 stops (Ok answer) due on err reads = absurd (cc)
 stops (Err fault) due on err reads = refuses-bind fault due on reads
+
+-- a refusal of the first step is that of more steps
+pub first_stops : {B : Type 0} (result : Result B Malformed) (clean : Result (Unit {0}) Refusal) (x : B) (on : Unit {0} → Result B Refusal) → IsErr result
+    → Reads result (bind clean (λ _. Ok x)) → Reads result (bind clean on)
+first_stops (Ok answer) clean x on err reads = absurd (cc)
+first_stops (Err NoMemory) clean x on err reads = tt
+first_stops (Err (At path kind)) (Ok _) x on err reads = absurd (cc)
+first_stops (Err (At path kind)) (Err refusal) x on err reads = reads
 
 -- the row at a place begins what is left there
 pub row-next : (rows : Rows) (i : ℕ) (row : List ℕ × Option Kind) → Some row ≡ slice_get rows i → drop i rows ≡ row ∷ drop (i + 1) rows

@@ -1,5 +1,5 @@
 -- What is written in a table's order is read again.
-use Rattle.std.proofs.Common.{◌≡◌, ℕ, Bool, true, false, ◌||◌, List, [], ◌∷◌, refl, ap, sym, ◌∙◌, if◌then◌else◌, Option, None, Some, Result, Ok}
+use Rattle.std.proofs.Common.{◌≡◌, ℕ, Bool, true, false, ◌||◌, List, [], ◌∷◌, refl, ap, sym, ◌∙◌, Option, None, Some, Ok}
 use Rattle.std.specs.Prelude.{bytes_eq}
 use Rattle.std.proofs.lemmas.Bool.{cond-true, cond-false, or_parts}
 use Rattle.std.proofs.lemmas.Slice.Eq.{bytes_eq-Decides}
@@ -7,7 +7,7 @@ use Rattle.qe_document.specs.Names.{Distinct, is_named, value_named}
 use Rattle.qe_value.specs.declared.value.Plain.{Plain}
 use Rattle.qe_layout.specs.declared.malformed.Kind.{Kind}
 use Rattle.qe_layout.specs.Refusal.{map_read}
-use Rattle.qe_layout.specs.Layouts.{Element, Reader, Rows, arranged, built, IsSlot, AreSlots, HasOnly, IsLaid}
+use Rattle.qe_layout.specs.Layouts.{Element, Reader, Rows, built, AreSlots, HasOnly, IsLaid}
 use Rattle.qe_layout.specs.Writing.{written, AreSpelled}
 use Rattle.qe_layout.proofs.LaidLemmas.{laid_arranged}
 

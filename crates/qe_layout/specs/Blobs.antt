@@ -1,6 +1,8 @@
 -- Blobs: one byte for the kind, and one document.
-use Rattle.std.specs.Prelude.{◌≡◌, ℕ, ◌-◌, ◌==◌, List, [], ◌∷◌, length, bytes_eq, codes, if◌then◌else◌, Result, Ok, Err}
+use Rattle.std.specs.Prelude.{◌≡◌, ℕ, zero, suc, ◌-◌, ◌==◌, List, [], ◌∷◌, length, bytes_eq, codes, if◌then◌else◌, Result, Ok, Err}
 use Rattle.qe_value.specs.declared.fault.BsonFault.{BsonFault}
+use Rattle.qe_value.specs.declared.fault.BsonFault.TheVariants.{At}
+use Rattle.qe_value.specs.declared.fault.BsonKind.TheVariants.{Short}
 use Rattle.qe_document.specs.Reading.{document_at}
 use Rattle.qe_document.specs.Spelling.{Begins}
 use Rattle.qe_layout.specs.declared.malformed.Kind.TheVariants.{Empty, BlobSubtype, Bson, Trailing}
@@ -30,6 +32,11 @@ pub record IsBlob (kind : ℕ) (elements : List Element) (blob : List ℕ) : Typ
   pub rest : List ℕ
   pub first : blob ≡ kind ∷ rest
   pub document : Begins rest elements (length rest)
+
+-- the refusal of what is left of a blob that is cut after so many bytes: it has no byte, or its document is short
+abbrev pub cut_refusal : {A : Type 0} → ℕ → Result A Refusal
+cut_refusal zero = wrong whole Empty
+cut_refusal (suc count) = wrong whole (Bson (At count Short))
 
 -- the path of the whole is the name alone
 abbrev pub under_path : List ℕ → List ℕ → List ℕ

@@ -1,26 +1,10 @@
 -- Documents and arrays that stand under a name.
-use Rattle.std.specs.Prelude.{ℕ, ◌+◌, ◌==◌, nat_lt, Bool, true, ◌&&◌, List, [], ◌∷◌, length, decimal, if◌then◌else◌, Option, None, Some, Result, Ok, Err}
-use Rattle.qe_value.specs.declared.value.Plain.{Plain, out-Plain}
-use Rattle.qe_value.specs.declared.value.Plain.TheOpen.{Plain-F}
+use Rattle.std.specs.Prelude.{ℕ, ◌+◌, ◌==◌, nat_lt, Bool, ◌&&◌, List, [], ◌∷◌, length, decimal, if◌then◌else◌, Option, None, Some, Result, Ok}
+use Rattle.qe_value.specs.declared.value.Plain.{Plain}
+use Rattle.qe_document.specs.Views.{fields_of, items_of}
 use Rattle.qe_layout.specs.declared.malformed.Kind.TheVariants.{WrongType, NoEdges, TooManyEdges}
 use Rattle.qe_layout.specs.Refusal.{Refusal, wrong, bind, map_read, read_inside}
 use Rattle.qe_layout.specs.Layouts.{Element, Reader}
-
-abbrev pub fields_open : Plain-F Plain → Option (List Element)
-fields_open (Plain-F.Doc fields) = Some fields
-fields_open _ = None
-
--- the elements of a value that is a document
-unfoldable pub fields_of : Plain → Option (List Element)
-fields_of value = fields_open (out-Plain value)
-
-abbrev pub items_open : Plain-F Plain → Option (List Plain)
-items_open (Plain-F.Array items) = Some items
-items_open _ = None
-
--- the items of a value that is an array
-unfoldable pub items_of : Plain → Option (List Plain)
-items_of value = items_open (out-Plain value)
 
 -- what has to be there is, or the value has another type
 abbrev pub of_type : {A : Type 0} → List ℕ → Option A → Result A Refusal

@@ -1,5 +1,5 @@
 -- Layouts: a kind of document is one table of rows, and its elements are read into the slots of their rows.
-use Rattle.std.specs.Prelude.{◌≡◌, ℕ, ◌+◌, slice_index_or, slice_set, List, [], ◌∷◌, map, bytes_eq, if◌then◌else◌, Option, None, Some, Result, Ok, Err, Bool, true}
+use Rattle.std.specs.Prelude.{◌≡◌, ℕ, ◌+◌, slice_index_or, List, [], ◌∷◌, map, bytes_eq, if◌then◌else◌, Option, None, Some, Result, Ok, Err, true}
 use Rattle.qe_document.specs.Names.{Distinct, is_named, value_named}
 use Rattle.qe_value.specs.declared.value.Plain.{Plain}
 use Rattle.qe_layout.specs.declared.malformed.Kind.{Kind}
@@ -82,24 +82,6 @@ in_slot slots place = slice_index_or slots place None
 abbrev pub place_from : List ℕ → ℕ → Rows → Option ℕ
 place_from name i [] = None
 place_from name i (row ∷ rows) = if bytes_eq name row.0 then Some i else place_from name (i + 1) rows
-
-abbrev pub with_slot : {A : Type 0} → Option ℕ → Option A → List (Option A) → List (Option A)
-with_slot None part slots = slots
-with_slot (Some place) part slots = slice_set slots place part
-
--- an element's part is put into the slot of its row
-abbrev pub filled_one : {A : Type 0} → Reader A → Rows → Element → List (Option A) → Result (List (Option A)) Refusal
-filled_one reads rows e slots = map_read (λ part. with_slot (place_from e.0 0 rows) (Some part) slots) (reads e.0 e.1)
-
-abbrev pub filled : {A : Type 0} → Reader A → Rows → List Element → List (Option A) → Result (List (Option A)) Refusal
-filled reads rows [] slots = Ok slots
-filled reads rows (e ∷ elements) slots = bind (filled_one reads rows e slots) (λ next. filled reads rows elements next)
-
--- the rows that are needed have a part
-abbrev pub complete_in : {A : Type 0} → Rows → List (Option A) → Result (Unit {0}) Refusal
-complete_in [] slots = Ok tt
-complete_in {A} (row ∷ rows) [] = bind (lack {V = A} row.0 row.1 None) (λ _. complete_in {A = A} rows [])
-complete_in (row ∷ rows) (s ∷ slots) = bind (lack row.0 row.1 s) (λ _. complete_in rows slots)
 
 -- THE RELATION: a row's element is there, and is read as the slot's part, or the row may lack and does
 abbrev pub IsSlot : {A : Type 0} → Reader A → List Element → List ℕ × Option Kind → Option A → Type 0

@@ -1,6 +1,5 @@
 -- How single values are read.
-use Rattle.std.specs.Prelude.{ℕ, ◌==◌, nat_lt, ℤ, pos, negsuc, List, length, if◌then◌else◌, Result, Ok, Err}
-use Rattle.qe_value.specs.declared.value.Plain.{Plain}
+use Rattle.std.specs.Prelude.{ℕ, ◌==◌, nat_lt, ℤ, pos, negsuc, List, length, if◌then◌else◌, Result, Ok}
 use Rattle.qe_value.specs.declared.value.Plain.TheVariants.{Binary, Int32, Int64}
 use Rattle.qe_layout.specs.declared.malformed.Kind.TheVariants.{WrongType, WrongLength, Negative}
 use Rattle.qe_layout.specs.Refusal.{Refusal, wrong}
@@ -30,7 +29,3 @@ natural_from name (negsuc n) = wrong name Negative
 abbrev pub natural_reads : Reader ℤ
 natural_reads name (Int64 number) = natural_from name number
 natural_reads name _ = wrong name WrongType
-
--- any value
-abbrev pub any_reads : Reader Plain
-any_reads name value = Ok value

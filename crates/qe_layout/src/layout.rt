@@ -1,11 +1,11 @@
 //! Layouts, and the one pass that reads a document under one.
 
-ghost use Rattle.std.specs.Prelude.{◌≡◌, ◌<◌, length, replicate, slice_get, Some, None, IfOk};
-ghost use Rattle.std.specs.Option.{option_copied};
+ghost use Rattle.std.specs.Prelude.{◌≡◌, ◌<◌, List, length, slice_get, slice_set, Some, Ok, IfOk};
+ghost use Rattle.std.specs.Option.{option_copied, option_map_or};
 ghost use Rattle.qe_document.specs.Names.{Distinct};
 ghost use Rattle.qe_document.specs.Views.{plain};
-ghost use Rattle.qe_layout.specs.Refusal.{Reads};
-ghost use Rattle.qe_layout.specs.Layouts.{Reader, Rows, arranged, slots_of, place_from, filled_one, filled, lack, complete_in};
+ghost use Rattle.qe_layout.specs.Refusal.{Reads, bind, map_read};
+ghost use Rattle.qe_layout.specs.Layouts.{Element, Reader, Rows, checked, complete, arranged, slots_of, place_from, lack};
 
 use crate::malformed::{Kind, Malformed, refuse};
 use crate::slots::Slots;
@@ -54,29 +54,31 @@ pub fn arrange<L: Layout>(
     ensures distinct { IfOk result (λ _. Distinct document) }
     ensures exact { Reads result (arranged (L.reads layout.now) (L.rows layout.now) document) }
 {
-    let _count = document.len();
     let slots = fill_all(alloc, layout, document)?;
     check_rows(alloc, layout, &slots)?;
     Ok(slots)
 }
 
-// The slots with every element's part.
+// The slots with every element's part, or the first refusal of an element.
 fn fill_all<L: Layout>(
     alloc: Global,
     layout: &L,
     document: Document,
 ) -> Result<Slots<L::Part>, Malformed>
-    requires { L.fits layout.now }
-    ensures { Reads result (filled (L.reads layout.now) (L.rows layout.now) document (replicate (length (L.rows layout.now)) None)) }
+    requires fits { L.fits layout.now }
+    requires apart { Distinct (L.rows layout.now) }
+    ensures distinct { IfOk result (λ _. Distinct document) }
+    ensures exact { Reads result (bind (checked (L.reads layout.now) document) (λ _. Ok (slots_of (L.reads layout.now) (L.rows layout.now) document))) }
 {
     let mut slots = Slots::empty(alloc, layout.count())?;
-    for (name, value) in document.into_fields() {
+    let fields = document.into_fields();
+    for (name, value) in fields {
         slots = fill(alloc, layout, slots, name.as_str(), value)?;
     }
     Ok(slots)
 }
 
-// The slots with an element's part.
+// The slots with an element's part in the slot of its row, if there is one.
 fn fill<L: Layout>(
     alloc: Global,
     layout: &L,
@@ -85,7 +87,7 @@ fn fill<L: Layout>(
     value: Value,
 ) -> Result<Slots<L::Part>, Malformed>
     requires { L.fits layout.now }
-    ensures { Reads result (filled_one (L.reads layout.now) (L.rows layout.now) (name.now, plain value) slots) }
+    ensures { Reads result (map_read (λ part. option_map_or (λ place. slice_set slots place (Some part)) (place_from name.now 0 (L.rows layout.now)) slots) (L.reads layout.now name.now (plain value))) }
 {
     let part = layout.read(alloc, name, value)?;
     if let Some(place) = place_of(layout, name) {
@@ -109,7 +111,7 @@ fn place_of<L: Layout>(layout: &L, name: &str) -> Option<usize>
 
 // Refuses the first needed row whose slot is empty.
 fn check_rows<L: Layout>(alloc: Global, layout: &L, slots: &Slots<L::Part>) -> Result<(), Malformed>
-    ensures { Reads result (complete_in (L.rows layout.now) slots.now) }
+    ensures { (elements : List Element) → slots.now ≡ slots_of (L.reads layout.now) (L.rows layout.now) elements → checked (L.reads layout.now) elements ≡ Ok tt → Reads result (complete (L.rows layout.now) elements) }
 {
     for place in 0..layout.count() {
         let (name, need) = layout.row(place);

@@ -51,11 +51,11 @@ pub enum Kind {
     /// A command's name is none of the known.
     #[error("the command is unknown")]
     UnknownOp,
-    /// A name is kept for the server.
-    #[error("the name is kept for the server")]
+    /// A name begins with `$` or `__`, or is `_id` where it can't be set.
+    #[error("the name is reserved")]
     ReservedName,
-    /// The schema has no such field.
-    #[error("the schema has no such field")]
+    /// The schema has no such field, or has a plain one where an encrypted one is wanted.
+    #[error("the schema has no such encrypted field")]
     NotInSchema,
     /// A payload is of another kind than its field's.
     #[error("the payload's kind isn't the field's")]

@@ -1,6 +1,1 @@
-pub mod Parts
-pub mod Carried
-pub mod Equal
-pub mod Insert
-pub mod Range
 pub mod Laws

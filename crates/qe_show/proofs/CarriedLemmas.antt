@@ -1,20 +1,18 @@
 -- What a payload carries unread can be written, since it stands in a document that was read.
 use Rattle.std.proofs.Common.{◌≡◌, ℕ, zero, suc, ◌+◌, List, [], ◌∷◌, ◌++◌, drop, Option, Some, None, refl, ap, sym, ◌∙◌, add-one}
 use Rattle.std.specs.Prelude.{slice_get, option_map}
-use Rattle.qe_value.specs.declared.fault.EncodeFault.{EncodeFault}
-use Rattle.qe_value.specs.declared.fault.EncodeFault.TheVariants.{NoMemory}
 use Rattle.qe_value.specs.declared.value.Plain.{Plain}
 use Rattle.qe_document.specs.Names.{value_named}
 use Rattle.qe_document.specs.Spelling.{IsDocument}
-use Rattle.qe_document.specs.Writing.{IsWhyRefused}
 use Rattle.qe_encode.proofs.FlatLemmas.{writing_laws}
-use Rattle.qe_payload.specs.declared.insert.InsertPayload.{InsertPayload}
-use Rattle.qe_payload.specs.declared.range.FindRange.{FindRange}
+use Rattle.qe_insert.specs.declared.insert.InsertPayload.{InsertPayload}
+use Rattle.qe_find.specs.declared.range.FindRange.{FindRange}
 use Rattle.qe_layout.specs.Layouts.{Element}
-use Rattle.qe_payload.specs.Carried.{extra_names, picked_one, picked}
-use Rattle.qe_payload.specs.Insert.{IsInsertBlob}
-use Rattle.qe_payload.specs.Range.{IsRangeBlob}
-use Rattle.qe_payload.proofs.ExtraLemmas.{insert_extra, range_extra}
+use Rattle.qe_parts.specs.Carried.{extra_names, picked_one, picked}
+use Rattle.qe_insert.specs.Insert.{IsInsertBlob}
+use Rattle.qe_find.specs.Range.{IsRangeBlob}
+use Rattle.qe_find.proofs.FormLemmas.{range_extra}
+use Rattle.qe_insert.proofs.FormLemmas.{insert_extra}
 use Rattle.qe_show.specs.Payloads.{AreWritable}
 
 one_writable : (name : List ℕ) (value : Option Plain) (rest : List Element) → ((v : Plain) → value ≡ Some v → IsDocument (([], v) ∷ [])) → AreWritable rest
@@ -45,7 +43,3 @@ element_next (e ∷ elements) zero name v name_is value_is =
 element_next (e ∷ elements) (suc i) name v name_is value_is =
     element_next elements i name v name_is value_is
     ∙ ap (λ rest. (name, v) ∷ rest) (ap (λ n. drop n elements) (add-one i) ∙ ap (λ n. drop n (e ∷ elements)) (sym (add-one (suc i))))
-
--- a value that fits is refused for want of memory alone
-pub no_other_fault : (v : Plain) (fault : EncodeFault) → IsDocument (([], v) ∷ []) → IsWhyRefused (([], v) ∷ []) fault → fault ≡ NoMemory
-no_other_fault v fault is why = writing_laws.only_memory (([], v) ∷ []) fault is why

@@ -1,5 +1,5 @@
 -- The line of a blob that is refused.
-use Rattle.std.proofs.Common.{◌≡◌, ◌⊎◌, inr, ℕ, List, Option, None, Some, Result, Ok, Err}
+use Rattle.std.proofs.Common.{◌⊎◌, inr, ℕ, List, Option, None, Some, Result, Ok, Err}
 use Rattle.std.specs.Prelude.{IfOk}
 use Rattle.qe_base.specs.Answers.{Refuses}
 use Rattle.qe_layout.specs.Refusal.{Refusal}

@@ -6,9 +6,9 @@ use Rattle.qe_indexed.specs.declared.fault.IndexedFault.{IndexedFault}
 use Rattle.qe_indexed.specs.Parts.{Indexed}
 use Rattle.qe_indexed.specs.Spelling.{IsLaidOut}
 use Rattle.qe_indexed.specs.Reading.{indexed_at}
-use Rattle.qe_payload.specs.Equal.{equal_at, IsEqualBlob}
-use Rattle.qe_payload.specs.Insert.{insert_at, IsInsertBlob}
-use Rattle.qe_payload.specs.Range.{range_at, IsRangeBlob}
+use Rattle.qe_find.specs.Equal.{equal_at, IsEqualBlob}
+use Rattle.qe_insert.specs.Insert.{insert_at, IsInsertBlob}
+use Rattle.qe_find.specs.Range.{range_at, IsRangeBlob}
 use Rattle.qe_layout.specs.Refusal.{Refusal}
 use Rattle.qe_show.specs.Kinds.{kind_text, indexed_text}
 use Rattle.qe_show.specs.Parts.{hex_part, number_part, uuid_part, parts_from}

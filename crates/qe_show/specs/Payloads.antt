@@ -4,11 +4,12 @@ use Rattle.std.specs.Prelude.{ℕ, List, [], ◌∷◌, ◌++◌, length, codes,
 use Rattle.std.specs.Fmt.{decimal}
 use Rattle.std.specs.List.{AllByRecursion}
 use Rattle.qe_document.specs.Spelling.{IsDocument}
-use Rattle.qe_payload.specs.declared.equal.FindEqual.{FindEqual}
-use Rattle.qe_payload.specs.declared.insert.EdgeTokens.{EdgeTokens}
-use Rattle.qe_payload.specs.declared.insert.InsertPayload.{InsertPayload}
-use Rattle.qe_payload.specs.declared.range.FindEdge.{FindEdge}
-use Rattle.qe_payload.specs.declared.range.FindRange.{FindRange}
+use Rattle.qe_ecoc.specs.Forms.{cipher_bytes}
+use Rattle.qe_find.specs.declared.equal.FindEqual.{FindEqual}
+use Rattle.qe_parts.specs.declared.edges.EdgeTokens.{EdgeTokens}
+use Rattle.qe_insert.specs.declared.insert.InsertPayload.{InsertPayload}
+use Rattle.qe_parts.specs.declared.edges.FindEdge.{FindEdge}
+use Rattle.qe_find.specs.declared.range.FindRange.{FindRange}
 use Rattle.qe_layout.specs.Layouts.{Element}
 use Rattle.qe_show.specs.Parts.{named, hex_part, number_part, uuid_part, token_part, parts_from, carried_parts}
 
@@ -16,7 +17,7 @@ use Rattle.qe_show.specs.Parts.{named, hex_part, number_part, uuid_part, token_p
 unfoldable pub edge_part : ℕ → EdgeTokens → List ℕ
 edge_part place edge =
     token_part place (codes "d") edge.d ++ token_part place (codes "s") edge.s ++ token_part place (codes "l") edge.l
-    ++ token_part place (codes "p") edge.p
+    ++ token_part place (codes "p") (cipher_bytes edge.p)
 
 unfoldable pub find_edge_part : ℕ → FindEdge → List ℕ
 find_edge_part place edge = token_part place (codes "d") edge.d ++ token_part place (codes "s") edge.s ++ token_part place (codes "l") edge.l
@@ -28,7 +29,7 @@ edges_parts (Some edges) = parts_from edge_part 0 edges
 
 unfoldable pub insert_head : InsertPayload → List ℕ
 insert_head p =
-    codes "insert" ++ hex_part (codes "d") p.d ++ hex_part (codes "s") p.s ++ hex_part (codes "p") p.p ++ uuid_part (codes "u") p.u
+    codes "insert" ++ hex_part (codes "d") p.d ++ hex_part (codes "s") p.s ++ hex_part (codes "p") (cipher_bytes p.p) ++ uuid_part (codes "u") p.u
     ++ number_part (codes "t") p.t ++ hex_part (codes "v") p.v ++ hex_part (codes "e") p.e ++ hex_part (codes "l") p.l
     ++ number_part (codes "k") p.k
 

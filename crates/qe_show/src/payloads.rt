@@ -18,7 +18,7 @@ impl Item for EdgeTokens {
         put_token(alloc, line, place, "d", &self.d)?;
         put_token(alloc, line, place, "s", &self.s)?;
         put_token(alloc, line, place, "l", &self.l)?;
-        put_token(alloc, line, place, "p", &self.p)
+        put_token(alloc, line, place, "p", self.p.bytes())
     }
 }
 
@@ -53,7 +53,7 @@ fn insert_head(alloc: Global, payload: &InsertPayload) -> Result<Bytes, NoMemory
     let mut line = Bytes::from_slice(alloc, b"insert")?;
     put_hex(alloc, &mut line, "d", &payload.d)?;
     put_hex(alloc, &mut line, "s", &payload.s)?;
-    put_hex(alloc, &mut line, "p", &payload.p)?;
+    put_hex(alloc, &mut line, "p", payload.p.bytes())?;
     put_uuid(&mut line, "u", payload.u)?;
     put_number(alloc, &mut line, "t", i64::from(payload.t))?;
     put_hex(alloc, &mut line, "v", payload.v.slice())?;

@@ -1,5 +1,5 @@
 use Rattle.std.proofs.Common.{◌≡◌, drop}
-use Rattle.qe_layout.specs.Layouts.{complete_in}
+use Rattle.qe_layout.proofs.Pass.{complete_in}
 use Rattle.qe_layout.proofs.layout.check_rows.Given as goal
 
 -- the rows before the place are there

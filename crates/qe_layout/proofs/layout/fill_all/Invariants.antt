@@ -1,6 +1,6 @@
 use Rattle.std.proofs.Common.{◌≡◌, map, length, replicate, None}
 use Rattle.qe_document.specs.Views.{field_view}
-use Rattle.qe_layout.specs.Layouts.{filled}
+use Rattle.qe_layout.proofs.Pass.{filled}
 use Rattle.qe_layout.proofs.layout.fill_all.Given as goal
 
 -- what is left decides

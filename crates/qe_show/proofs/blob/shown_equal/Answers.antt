@@ -1,5 +1,5 @@
 use Rattle.qe_layout.specs.Refusal.{refusal_of}
-use Rattle.qe_payload.specs.Equal.{equal_at, IsEqualBlob}
+use Rattle.qe_find.specs.Equal.{equal_at, IsEqualBlob}
 use Rattle.qe_show.specs.Blob.{ShowsParts}
 use Rattle.qe_show.specs.Payloads.{equal_line}
 use Rattle.qe_show.proofs.RefusedLemmas.{refused_line}

@@ -1,6 +1,6 @@
 use Rattle.qe_show.proofs.CarriedLemmas.{insert_writable}
 use Rattle.qe_layout.specs.Refusal.{refusal_of}
-use Rattle.qe_payload.specs.Insert.{insert_at, IsInsertBlob}
+use Rattle.qe_insert.specs.Insert.{insert_at, IsInsertBlob}
 use Rattle.qe_show.specs.Blob.{ShowsParts}
 use Rattle.qe_show.specs.Payloads.{insert_line}
 use Rattle.qe_show.proofs.RefusedLemmas.{refused_line}

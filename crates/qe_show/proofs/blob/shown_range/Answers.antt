@@ -1,6 +1,6 @@
 use Rattle.qe_show.proofs.CarriedLemmas.{range_writable}
 use Rattle.qe_layout.specs.Refusal.{refusal_of}
-use Rattle.qe_payload.specs.Range.{range_at, IsRangeBlob}
+use Rattle.qe_find.specs.Range.{range_at, IsRangeBlob}
 use Rattle.qe_show.specs.Blob.{ShowsParts}
 use Rattle.qe_show.specs.Payloads.{range_line}
 use Rattle.qe_show.proofs.RefusedLemmas.{refused_line}

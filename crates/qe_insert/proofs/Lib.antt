@@ -1,0 +1,4 @@
+pub mod FormLemmas
+pub mod LawLemmas
+pub mod NamedLemmas
+pub mod WriteLemmas

@@ -1,0 +1,4 @@
+pub mod Edges
+pub mod Parts
+pub mod Carried
+pub mod Laws
