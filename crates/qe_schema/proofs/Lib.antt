@@ -1,5 +1,6 @@
 mod CellLemmas
-mod DomainLemmas
-mod GaveLemmas
+mod CommandLemmas
+mod KeyLemmas
 mod ResolvedLemmas
-mod SchemaLemmas
+mod SlotLemmas
+mod UnknownLemmas

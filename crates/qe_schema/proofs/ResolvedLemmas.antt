@@ -3,25 +3,28 @@ use Rattle.std.proofs.Common.{◌≡◌, ℕ, suc, ◌+◌, ℤ, inl, inr, List,
 use Rattle.std.specs.Prelude.{Result, Ok, bytes_eq, codes, slice_get, ◌==◌}
 use Rattle.std.specs.List.{AllByRecursion, list_all}
 use Rattle.std.proofs.lemmas.Bool.{cases_Bool, eqb-true}
+use Rattle.std.proofs.lemmas.List.Elements.{All-from_recursion}
 use Rattle.qe_value.specs.declared.value.Plain.{Plain}
 use Rattle.qe_value.specs.declared.value.Plain.TheVariants as p
-use Rattle.qe_document.specs.Views.{fields_of, items_of}
-use Rattle.qe_document.specs.Types.{type_byte}
+use Rattle.qe_value.specs.Views.{fields_of, items_of}
+use Rattle.qe_value.specs.Types.{type_byte}
 use Rattle.qe_value.proofs.PlainLemmas.{spelled-Int64}
 use Rattle.qe_edges.specs.Rules.{Rules}
-use Rattle.qe_schema.specs.declared.command.Term.{Term}
-use Rattle.qe_schema.specs.declared.command.Term.TheVariants as t
-use Rattle.qe_schema.specs.declared.fault.PlainFault.TheVariants as f
-use Rattle.qe_schema.specs.declared.field.Field.{Field}
-use Rattle.qe_schema.specs.declared.field.FieldKind.{FieldKind}
-use Rattle.qe_schema.specs.declared.field.FieldKind.TheVariants as k
-use Rattle.qe_schema.specs.Judgements.{some_or, gather}
-use Rattle.qe_schema.specs.Lookup.{known, known_from}
-use Rattle.qe_schema.specs.Names.{is_reserved}
-use Rattle.qe_schema.specs.Values.{is_id, kind_of, typed, widened, number_of}
-use Rattle.qe_schema.specs.Filters.{interval_of, end_of, between, equal_term, range_term, field_term, term_of, one_term, is_flat, flat_terms, member_terms, all_terms, and_terms, name_terms}
-use Rattle.qe_schema.specs.Resolved.{OfField, IsEqualityOf, IsRange, IsTerm, AreTerms}
-use Rattle.qe_schema.proofs.GaveLemmas.{gave, there}
+use Rattle.qe_plain.specs.declared.command.Term.{Term}
+use Rattle.qe_plain.specs.declared.command.Term.TheVariants as t
+use Rattle.qe_filter.specs.declared.fault.PlainFault.TheVariants as f
+use Rattle.qe_field.specs.declared.field.Field.{Field}
+use Rattle.qe_field.specs.declared.field.FieldKind.{FieldKind}
+use Rattle.qe_field.specs.declared.field.FieldKind.TheVariants as k
+use Rattle.qe_field.specs.Judgements.{some_or, gather}
+use Rattle.qe_field.specs.Lookup.{known, known_from}
+use Rattle.qe_field.specs.Names.{is_reserved}
+use Rattle.qe_field.specs.Values.{is_id, kind_of}
+use Rattle.qe_filter.specs.Typed.{typed, widened, number_of}
+use Rattle.qe_filter.specs.Filters.{interval_of, end_of, between, equal_term, range_term, field_term, term_of, one_term, is_flat, flat_terms, member_terms, all_terms, and_terms, name_terms}
+use Rattle.qe_schema.specs.Laws.{EndsAreTheGiven, TermsAreTheFields}
+use Rattle.qe_schema.specs.Resolved.{OfField, IsEqualityOf, IsRange, IsTerm, IsEnd, IsInterval, ends_in}
+use Rattle.qe_field.proofs.GaveLemmas.{gave, there}
 
 -- the field that was found
 pub record Found (fields : List Field) (first : ℕ) (found : ℕ × FieldKind) : Type 0 where
@@ -181,5 +184,37 @@ name_is fields element terms h =
       | inr failed ↦ let g = rw failed at h in one_is fields element terms g
     ]
 
-pub are_terms : AreTerms
-are_terms fields elements terms h = gather_all (IsTerm fields) (name_terms fields) (name_is fields) elements terms h
+pub are_terms : TermsAreTheFields
+are_terms fields elements terms h =
+    All-from_recursion (IsTerm fields) terms (gather_all (IsTerm fields) (name_terms fields) (name_is fields) elements terms h)
+
+end_is : (name : List ℕ) (kind : ℕ) (missing : ℤ) (given : Option Plain) (z : ℤ) → end_of name kind missing given ≡ Ok z → IsEnd kind missing given z
+end_is name kind missing None z h = let e : missing ≡ z = cc in sym e
+end_is name kind missing (Some value) z h = there _ (number_of kind value) z h
+
+ends_are : (name : List ℕ) (value : Plain) (o : Option (List (List ℕ × Plain))) (i kind : ℕ) (domain : Rules) (term : Term)
+    → range_term name i kind domain value o ≡ Ok term → IsInterval i kind domain (ends_in value o) term
+ends_are name value None i kind domain term h =
+    let g = gave (some_or (f.TypeDiffers name) (number_of kind value)) _ term h in
+    let last = g.then_is in
+    let e : t.Between i g.value g.value ≡ term = cc in
+    let is = there _ (number_of kind value) g.value g.found in
+    record { ends = (Some value, Some value); there = refl; lo = g.value; hi = g.value; is = sym e; low = is; high = is }
+ends_are name value (Some elements) i kind domain term h =
+    let g = gave (some_or (f.BadFilter name) (interval_of elements)) (between name i kind domain) term h in
+    let low = gave (end_of name kind domain.min g.value.0) _ term g.then_is in
+    let high = gave (end_of name kind domain.max g.value.1) _ term low.then_is in
+    let last = high.then_is in
+    let e : t.Between i low.value high.value ≡ term = cc in
+    record {
+      ends = g.value;
+      there = there _ (interval_of elements) g.value g.found;
+      lo = low.value;
+      hi = high.value;
+      is = sym e;
+      low = end_is name kind domain.min g.value.0 low.value low.found;
+      high = end_is name kind domain.max g.value.1 high.value high.found;
+    }
+
+pub ends_are_given : EndsAreTheGiven
+ends_are_given name id value i kind contention greatest domain term h = ends_are name value (fields_of value) i kind domain term h

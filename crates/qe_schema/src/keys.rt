@@ -6,10 +6,9 @@ ghost use Rattle.qe_schema.specs.Faults.{key_refusal};
 ghost use Rattle.qe_schema.specs.Keys as spec;
 
 use crate::fault::KeyFault;
-use crate::field::Field;
-use crate::lookup::is_encrypted;
 use crate::schema::Schema;
 use qe_base::{Duplicate, KeyList, Listing, NoMemory, array_at};
+use qe_field::encrypted_numbers;
 use std::alloc::Global;
 use std::marker::Model;
 
@@ -26,20 +25,11 @@ impl Model for Keys {
     ghost Value = { List (List ℕ) };
 
     ghost view = { λ k. k.keys };
-}
 
-// The numbers of the encrypted fields, in order.
-fn encrypted_numbers(alloc: Global, fields: &[Field]) -> Result<Listing<u32>, NoMemory>
-    requires { length fields.now ≤ 64 }
-    ensures { IfOk result (λ numbers. numbers ≡ spec.encrypted_numbers fields.now) }
-{
-    let mut numbers = Listing::new(alloc);
-    for i in 0..fields.len() {
-        if is_encrypted(&fields[i].kind) {
-            numbers.push(i as u32)?;
-        }
-    }
-    Ok(numbers)
+    ghost use Rattle.std.specs.List.{AllPairs};
+    ghost use Rattle.qe_schema.specs.Keys.{AreApart};
+
+    ghost invariant = { λ k. AllPairs AreApart k.keys };
 }
 
 // The root of a key: its last 32 bytes.
@@ -97,10 +87,10 @@ impl Keys {
                 got: keys.len() as u64,
             });
         }
-        if let Some(fault) = repeated(numbers.slice(), keys.slice()) {
-            return Err(fault);
+        match repeated(numbers.slice(), keys.slice()) {
+            Some(fault) => Err(fault),
+            None => Ok(Keys { alloc, keys }),
         }
-        Ok(Keys { alloc, keys })
     }
 
     /// The number of keys.

@@ -3,39 +3,29 @@
 //!     let schema = Schema::read(alloc, &document)?; // the fields, or the first fault
 //!     let keys = Keys::new(alloc, &schema, list)?;
 //!     let command = schema.resolve(alloc, &raw)?; // with field numbers, typed values and whole intervals
+//!     schema.fits(alloc, &command)?; // whether its document can be written
 //!
-//! What a command means to a collection of plain documents stands in `specs/Collection`. Read: field, fault, carried,
-//! command, shape, reading, schema, keys, values, lookup, filters, cells, pairs, resolve.
+//! Fields stand in qe_field, commands and answers in qe_plain, what a command means under fields in qe_filter and
+//! qe_resolve, and whether it can be written in qe_fits; all are handed on here. Read: schema, fault, keys, laws.
 #![tactic(auto)]
 
-mod carried;
-mod cells;
-mod command;
-mod copies;
 mod fault;
-mod field;
-mod filters;
 mod keys;
 mod laws;
-mod lookup;
-mod names;
-mod pairs;
-mod reading;
-mod resolve;
 mod schema;
-mod shape;
-mod slots;
-mod values;
 
-pub use carried::Carried;
-pub use command::{
-    Cells, Filter, Pair, Pairs, PlainCell, PlainCommand, PlainDocument, PlainDocuments, PlainReply,
-    RawCommand, Term,
-};
-pub use fault::{KeyFault, PlainFault, SchemaFault};
-pub use field::{Field, FieldKind};
+pub use fault::KeyFault;
 pub use keys::Keys;
 pub use laws::{
-    resolved_cells_are_the_fields, resolved_terms_are_the_fields, what_is_read_is_a_schema,
+    a_given_end_stands_and_a_missing_one_is_the_domains, a_path_is_unknown_where_no_field_has_it,
+    a_resolved_command_holds_what_is_allowed, resolved_cells_are_the_fields,
+    resolved_terms_are_the_fields, what_is_read_is_a_schema,
+};
+pub use qe_field::{Field, FieldKind, SchemaFault};
+pub use qe_filter::PlainFault;
+pub use qe_fits::Part;
+pub use qe_plain::{
+    Carried, Cells, Filter, Pair, Pairs, PlainCell, PlainCommand, PlainDocument, PlainDocuments,
+    PlainReply, RawCommand, Term,
 };
 pub use schema::Schema;

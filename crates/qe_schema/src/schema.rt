@@ -1,20 +1,23 @@
 //! Schemas: fields with distinct paths and key ids.
 
-ghost use Rattle.std.specs.Prelude.{◌≡◌, ◌<◌, ◌≤◌, ◌↔◌, [], Some, IsTrue, IfSome, length, option_map, slice_get};
+ghost use Rattle.std.specs.Prelude.{◌≡◌, ◌<◌, ◌≤◌, ◌↔◌, [], Some, IsTrue, IfOk, IfSome, length, slice_get};
 ghost use Rattle.qe_base.specs.Answers.{Answers};
-ghost use Rattle.qe_schema.specs.Faults.{plain_refusal, schema_refusal};
-ghost use Rattle.qe_schema.specs.Lookup.{known};
-ghost use Rattle.qe_schema.specs.Reading.{schema_of};
-ghost use Rattle.qe_schema.specs.Resolve.{resolved as resolved_under};
+ghost use Rattle.qe_filter.specs.Faults.{plain_refusal};
+ghost use Rattle.qe_field.specs.Faults.{schema_refusal};
+ghost use Rattle.qe_field.specs.Lookup.{number_with as number_under};
+ghost use Rattle.qe_field.specs.Reading.{schema_of};
+ghost use Rattle.qe_field.specs.Schema.{IsSchema};
+ghost use Rattle.qe_fits.specs.Fits.{fits as fits_under, misfit as misfit_under};
+ghost use Rattle.qe_resolve.specs.Resolve.{resolved as resolved_under};
+ghost use Rattle.qe_schema.specs.Resolved.{IsResolved};
 
-use crate::command::{PlainCommand, RawCommand};
-use crate::fault::{PlainFault, SchemaFault};
-use crate::field::Field;
-use crate::lookup::known;
-use crate::reading::read_fields;
-use crate::resolve::resolved;
 use qe_base::{Duplicate, Listing, NoMemory};
-use qe_document::Document;
+use qe_field::{Field, SchemaFault, number_with, read_fields};
+use qe_filter::PlainFault;
+use qe_fits::{Part, fits, misfit};
+use qe_plain::{PlainCommand, RawCommand};
+use qe_resolve::resolved;
+use qe_value::Document;
 use std::alloc::Global;
 use std::marker::Model;
 
@@ -25,14 +28,16 @@ pub struct Schema {
 }
 
 impl Model for Schema {
-    ghost use Rattle.std.specs.Prelude.{List, ◌≤◌, length};
-    ghost use Rattle.qe_schema.specs.declared.field.Field.{Field};
+    ghost use Rattle.std.specs.Prelude.{List};
+    ghost use Rattle.qe_field.specs.declared.field.Field.{Field};
 
     ghost Value = { List Field };
 
     ghost view = { λ s. s.fields };
 
-    ghost invariant = { λ s. length s.fields ≤ 64 };
+    ghost use Rattle.qe_field.specs.Schema.{IsSchema};
+
+    ghost invariant = { λ s. IsSchema s.fields };
 }
 
 impl Schema {
@@ -71,26 +76,41 @@ impl Schema {
     pub fn fields(&self) -> &[Field]
         ensures all { result.now ≡ self.now }
         ensures few { length result.now ≤ 64 }
+        ensures schema { IsSchema self.now }
     {
         self.fields.slice()
     }
 
     /// The number of the field with a path.
     pub fn find(&self, path: &str) -> Option<u32>
-        ensures exact { result ≡ option_map (λ found. found.0) (known self.now path.now) }
+        ensures exact { result ≡ number_under self.now path.now }
         ensures within { IfSome result (λ i. i < length self.now) }
     {
-        match known(self.fields.slice(), path) {
-            Some((number, _)) => Some(number),
-            None => None,
-        }
+        number_with(self.fields(), path)
     }
 
     /// The command under this schema, or its first fault.
     pub fn resolve(&self, alloc: Global, raw: &RawCommand) -> Result<PlainCommand, PlainFault>
         ensures exact { Answers (λ it. it) plain_refusal result (resolved_under self.now raw.now) }
+        ensures allowed { IfOk result (IsResolved self.now) }
     {
-        resolved(alloc, self.fields.slice(), raw)
+        resolved(alloc, self.fields(), raw)
+    }
+
+    /// Whether the document of a command under this schema can be written: it has at most 16,777,216 bytes, counted over
+    /// the command, and 100 levels, and no name with a byte 0.
+    pub fn fits(&self, alloc: Global, plain: &PlainCommand) -> Result<bool, NoMemory>
+        ensures exact { IfOk result (λ fit. fit ≡ fits_under self.now plain.now) }
+    {
+        fits(alloc, self.fields(), plain)
+    }
+
+    /// The value of the command's line that is at fault where its document can't be written: one with a bad name or too
+    /// many levels, or else the one that is blamed for the length.
+    pub fn misfit(&self, alloc: Global, plain: &PlainCommand) -> Result<Option<Part>, NoMemory>
+        ensures exact { IfOk result (λ part. part ≡ misfit_under self.now plain.now) }
+    {
+        misfit(alloc, self.fields(), plain)
     }
 }
 

@@ -1,0 +1,4 @@
+mod DomainLemmas
+pub mod GaveLemmas
+pub mod SchemaLemmas
+mod ShapeLemmas

@@ -1,0 +1,105 @@
+-- The form of a field object: which names it has, and of which types their values are.
+use Rattle.std.specs.Prelude.{ℕ, ◌+◌, ◌&&◌, ◌||◌, ◌==◌, ℤ, pos, negsuc, int_le, is_some, List, length, codes, Bool, not, bytes_eq, Option, None, Some, option_map, if◌then◌else◌}
+use Rattle.qe_value.specs.declared.value.Plain.{Plain}
+use Rattle.qe_value.specs.Names.{value_named}
+use Rattle.qe_value.specs.Views.{fields_of}
+use Rattle.qe_field.specs.declared.shape.Rules.{Rules}
+use Rattle.qe_field.specs.declared.shape.Encrypted.{Encrypted}
+use Rattle.qe_field.specs.declared.shape.Shape.{Shape}
+use Rattle.qe_field.specs.Values.{number_in, text_in}
+
+infixl 10 ◌>>=◌
+abbrev pub ◌>>=◌ : {A B : Type 0} → Option A → (A → Option B) → Option B
+None >>= next = None
+Some x >>= next = next x
+
+-- what an encrypted field's object holds besides its path; only a range field has rules
+pub record EncryptedForm : Type 0 where
+  pub value_type : List ℕ
+  pub key_id : List ℕ
+  pub contention : Option ℤ
+  pub greatest : Option ℤ
+  pub rules : Option Rules
+
+-- what a field object holds; a plain field's has a path alone
+pub record FieldForm : Type 0 where
+  pub path : List ℕ
+  pub encrypted : Option EncryptedForm
+
+abbrev pub encrypted_view : Encrypted → EncryptedForm
+encrypted_view it = record { value_type = it.value_type.now; key_id = it.key_id.now; contention = it.contention; greatest = it.greatest; rules = it.rules }
+
+abbrev pub shape_view : Shape → FieldForm
+shape_view it = record { path = it.path.now; encrypted = option_map encrypted_view it.encrypted }
+
+abbrev pub text_named : List ℕ → List (List ℕ × Plain) → Option (List ℕ)
+text_named name elements = value_named name elements >>= text_in
+
+abbrev pub number_named : List ℕ → List (List ℕ × Plain) → Option ℤ
+number_named name elements = value_named name elements >>= number_in
+
+-- a number that may be missing; None: another value stands there
+abbrev pub number_if : Option Plain → Option (Option ℤ)
+number_if None = Some None
+number_if (Some value) = option_map Some (number_in value)
+
+abbrev pub number_if_named : List ℕ → List (List ℕ × Plain) → Option (Option ℤ)
+number_if_named name elements = number_if (value_named name elements)
+
+abbrev pub is_int32 : ℤ → Bool
+is_int32 z = int_le (negsuc 2147483647) z && int_le z (pos 2147483647)
+
+-- the ends of an int field's domain are int32s
+abbrev pub ends_fit : List ℕ → ℤ → ℤ → Bool
+ends_fit value_type low high = not (bytes_eq value_type (codes "int")) || (is_int32 low && is_int32 high)
+
+unfoldable pub rules_in : List ℕ → List (List ℕ × Plain) → Option Rules
+rules_in value_type elements = do
+  low ← number_named (codes "min") elements
+  high ← number_named (codes "max") elements
+  sparsity ← number_if_named (codes "sparsity") elements
+  trim ← number_if_named (codes "trimFactor") elements
+  if ends_fit value_type low high then Some (record { min = low; max = high; sparsity = sparsity; trim = trim }) else None
+
+-- the rules that the query asks for: a range has them, an equality has none
+abbrev pub rules_if_range : List ℕ → List ℕ → List (List ℕ × Plain) → Option (Option Rules)
+rules_if_range query value_type elements =
+    if bytes_eq query (codes "range") then option_map Some (rules_in value_type elements)
+    else if bytes_eq query (codes "equality") then Some None
+    else None
+
+abbrev pub one_if : Bool → ℕ
+one_if b = if b then 1 else 0
+
+abbrev pub count_of_rules : Option Rules → ℕ
+count_of_rules None = 0
+count_of_rules (Some rules) = 2 + one_if (is_some rules.sparsity) + one_if (is_some rules.trim)
+
+-- how many names an encrypted field's object has, its path among them
+abbrev pub count_of : EncryptedForm → ℕ
+count_of form = 4 + one_if (is_some form.contention) + one_if (is_some form.greatest) + count_of_rules form.rules
+
+unfoldable pub encrypted_in : List (List ℕ × Plain) → Option EncryptedForm
+encrypted_in elements = do
+  value_type ← text_named (codes "bsonType") elements
+  key_id ← text_named (codes "keyId") elements
+  query ← text_named (codes "query") elements
+  contention ← number_if_named (codes "contention") elements
+  greatest ← number_if_named (codes "greatest") elements
+  rules ← rules_if_range query value_type elements
+  Some (record { value_type = value_type; key_id = key_id; contention = contention; greatest = greatest; rules = rules })
+
+abbrev pub no_other_name : List (List ℕ × Plain) → EncryptedForm → Option EncryptedForm
+no_other_name elements form = if length elements == count_of form then Some form else None
+
+-- one name: a plain field; names are distinct, so a count shows that there is no other than those that are read
+unfoldable pub shape_in : List (List ℕ × Plain) → Option FieldForm
+shape_in elements = do
+  path ← text_named (codes "path") elements
+  if length elements == 1 then Some (record { path = path; encrypted = None }) else do
+    form ← encrypted_in elements
+    checked ← no_other_name elements form
+    Some (record { path = path; encrypted = Some checked })
+
+abbrev pub shape_of : Plain → Option FieldForm
+shape_of value = fields_of value >>= shape_in

@@ -1,0 +1,4 @@
+pub mod Faults
+pub mod Filters
+pub mod Indexed
+pub mod Typed

@@ -1,0 +1,3 @@
+mod CollectionLemmas
+mod PutLemmas
+mod SameLemmas

@@ -1,0 +1,4 @@
+pub mod Cells
+pub mod Pairs
+pub mod Resolve
+pub mod Slots
