@@ -1,3 +1,5 @@
-pub mod FormLemmas
-pub mod Int32Lemmas
-pub mod ScriptLemmas
+pub mod CallerLemmas
+pub mod FieldLemmas
+pub mod GaveLemmas
+pub mod JobLemmas
+pub mod ReadLemmas

@@ -1,4 +1,6 @@
-pub mod Forms
+pub mod Callers
+pub mod Fields
 pub mod Header
-pub mod Lines
+pub mod Line
+pub mod Read
 pub mod Script

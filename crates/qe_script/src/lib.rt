@@ -1,19 +1,22 @@
-//! Scripts: lines of JSON, read to the header and the commands that they say.
+//! Scripts: a header and commands, a line each, read exactly.
 //!
-//! `read_script` answers what `specs/Script.antt` says of the bytes, and else the first line that has no known form.
-//! Scripts have one integer field under equality, and the commands `insert`, `find` and `ids`. Read: script, lines,
-//! forms, reading.
+//! `read_script` answers what `specs/Script` says of the bytes, or the first faulty line with the first of its faults;
+//! `read_header` and `read_line` answer the same of single lines. Read: script, fields, callers, header, line, reading.
 //!
-//!     let script = read_script(alloc, b"{\"seed\":..}\n{\"do\":\"ids\",\"filter\":{\"age\":5}}\n")?;
-//!     script.header.field.path.as_str(); // "age"
-//!     script.commands.slice(); // [Command::Ids { value: 5 }]
+//!     let script = read_script(alloc, b"{\"seed\":\"00..\",\"fields\":[{\"path\":\"n\"}]}\n{\"do\":\"ids\"}\n")?;
+//!     script.lines.slice()[0].command; // PlainCommand::Find, without terms, of ids
 #![tactic(auto)]
 
-mod forms;
+mod callers;
+mod fields;
 mod header;
-mod lines;
+mod line;
 mod reading;
 mod script;
 
+pub use header::read_header;
+pub use line::read_line;
+pub use qe_raw::{LineFault, ScriptFault, ScriptKind, next_line, raw_line, read_raw};
+pub use qe_texts::{PrintFault, refusal_text, reply_text};
 pub use reading::read_script;
-pub use script::{Command, Field, Header, Script, ScriptFault, ScriptKind};
+pub use script::{Header, Line, Lines, Script};

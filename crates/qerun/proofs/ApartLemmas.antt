@@ -5,7 +5,7 @@ use Rattle.std.proofs.Math.Facts.{Fits-of_z, Fits-lt-pow}
 use Rattle.std.proofs.lemmas.Nat.{from_le_bytes-to_le_bytes_4}
 use Rattle.std.specs.Int.{w32, from_le_bytes, cast_signed, cast_unsigned}
 use Rattle.std.specs.Prelude.{Contains, FitsSigned}
-use Rattle.qe_script.specs.declared.script.Command.{Command}
+use Rattle.qe_first_script.specs.declared.script.Command.{Command}
 use Rattle.qe_tokens.specs.Labels.{IsLabel, HasLabels, first_number}
 use Rattle.qe_tokens.specs.declared.words.Word.TheVariants.{Item}
 use Rattle.qe_tokens.specs.declared.words.LabelKind.{LabelKind}

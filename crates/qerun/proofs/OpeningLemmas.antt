@@ -1,7 +1,7 @@
 -- Values that are opened one after another.
 use Rattle.std.proofs.Common.{◌≡◌, Bool, true, false, not, ℕ, ℤ, List, [], ◌∷◌, ◌++◌, take, drop, true, false, Result, Ok, Err, refl, ap, append_assoc, append-nil}
 use Rattle.std.specs.Str.{bytes_eq}
-use Rattle.qe_script.specs.declared.script.Header.{Header}
+use Rattle.qe_first_script.specs.declared.script.Header.{Header}
 use Rattle.qe_base.specs.Answers.{Refuses, Answers}
 use Rattle.qe_indexed.specs.Reading.{indexed_at}
 use Rattle.qe_indexed.specs.Faults as of_indexed

@@ -5,10 +5,10 @@ use Rattle.std.proofs.lemmas.List.Elements.{Contains-append_right, Contains-appe
 use Rattle.std.specs.Ordering.{int_eq}
 use Rattle.std.specs.Prelude.{Contains, FitsSigned, map}
 use Rattle.std.specs.Int.{w32}
-use Rattle.qe_script.specs.declared.script.Command.{Command}
-use Rattle.qe_script.specs.declared.script.Header.{Header}
-use Rattle.qe_script.specs.declared.script.Command.TheVariants.{Insert, Find, Ids}
-use Rattle.qe_script.specs.Script.{FitsInt32, AllInt32}
+use Rattle.qe_first_script.specs.declared.script.Command.{Command}
+use Rattle.qe_first_script.specs.declared.script.Header.{Header}
+use Rattle.qe_first_script.specs.declared.script.Command.TheVariants.{Insert, Find, Ids}
+use Rattle.qe_first_script.specs.Script.{FitsInt32, AllInt32}
 use Rattle.qerun.specs.declared.reply.Reply.{Reply}
 use Rattle.qerun.specs.declared.reply.Reply.TheVariants as reply
 use Rattle.qerun.specs.declared.request.Request.{Request}

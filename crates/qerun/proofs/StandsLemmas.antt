@@ -7,8 +7,8 @@ use Rattle.std.specs.List.{list_any, range_with_len}
 use Rattle.std.specs.Ordering.{int_eq}
 use Rattle.std.specs.Prelude.{Contains}
 use Rattle.std.specs.Str.{bytes_eq}
-use Rattle.qe_script.specs.declared.script.Command.{Command}
-use Rattle.qe_script.specs.declared.script.Header.{Header}
+use Rattle.qe_first_script.specs.declared.script.Command.{Command}
+use Rattle.qe_first_script.specs.declared.script.Header.{Header}
 use Rattle.qerun.specs.declared.server.Server.{Server}
 use Rattle.qerun.specs.declared.stored.Stored.{Stored}
 use Rattle.qerun.specs.Client.{tokens_of}

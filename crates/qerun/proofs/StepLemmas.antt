@@ -5,8 +5,8 @@ use Rattle.std.proofs.lemmas.Bool.Decides.{Decides-int_eq}
 use Rattle.std.proofs.lemmas.List.Elements.{Contains-push, Contains-push_cases, Contains-append_left}
 use Rattle.std.specs.Ordering.{int_eq}
 use Rattle.std.specs.Prelude.{Contains}
-use Rattle.qe_script.specs.declared.script.Command.{Command}
-use Rattle.qe_script.specs.declared.script.Header.{Header}
+use Rattle.qe_first_script.specs.declared.script.Command.{Command}
+use Rattle.qe_first_script.specs.declared.script.Header.{Header}
 use Rattle.qerun.specs.declared.server.Server.{Server}
 use Rattle.qerun.specs.declared.stored.Stored.{Stored}
 use Rattle.qerun.specs.Client.{tokens_of}

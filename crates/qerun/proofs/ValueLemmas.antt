@@ -11,7 +11,7 @@ use Rattle.qe_base.specs.Bytes.{AreBytes}
 use Rattle.qe_seal.specs.Enciphered.{enciphered, CipherLaws}
 use Rattle.qe_indexed.specs.Spelling.{IsLaidOut}
 use Rattle.qe_indexed.proofs.ReadingLemmas.{parts_are}
-use Rattle.qe_script.specs.declared.script.Header.{Header}
+use Rattle.qe_first_script.specs.declared.script.Header.{Header}
 use Rattle.qe_seal.specs.Sealed.{opened_value}
 use Rattle.qe_seal.specs.SealLaws.{SealLaws}
 use Rattle.qerun.specs.Client.{HasBytes, IsSent}

@@ -2,9 +2,9 @@
 use Rattle.std.specs.Prelude.{◌≡◌, ℕ, List, ◌++◌}
 use Rattle.qe_base.specs.Bytes.{AreBytes}
 use Rattle.qe_aes.specs.Laws.{IsBlock}
-use Rattle.qe_script.specs.declared.script.Command.{Command}
-use Rattle.qe_script.specs.declared.script.Command.TheVariants as command
-use Rattle.qe_script.specs.declared.script.Header.{Header}
+use Rattle.qe_first_script.specs.declared.script.Command.{Command}
+use Rattle.qe_first_script.specs.declared.script.Command.TheVariants as command
+use Rattle.qe_first_script.specs.declared.script.Header.{Header}
 use Rattle.qe_seal.specs.Sealed.{Seals}
 use Rattle.qe_tokens.specs.Tokens.{root_key_of, collections_of, edc_of, esc_of, server_cipher_of, server_token_of, server_derived_of}
 use Rattle.qe_tokens.specs.Labels.{row_token, tag_token}

@@ -6,7 +6,7 @@ use Rattle.qe_indexed.specs.Reading.{indexed_at}
 use Rattle.qe_indexed.specs.Parts as parts
 use Rattle.qe_indexed.specs.declared.fault.IndexedFault.{IndexedFault}
 use Rattle.qe_indexed.specs.declared.fault.IndexedFault.TheVariants as indexed
-use Rattle.qe_script.specs.declared.script.Header.{Header}
+use Rattle.qe_first_script.specs.declared.script.Header.{Header}
 use Rattle.qe_seal.specs.Sealed.{opened_value}
 use Rattle.qe_seal.specs.declared.sealed.SealFault.{SealFault}
 use Rattle.qe_seal.specs.declared.sealed.SealFault.TheVariants as seal

@@ -2,8 +2,8 @@
 use Rattle.std.specs.Prelude.{ℤ, List, [], ◌∷◌, ◌++◌, Bool, map, filter, if◌then◌else◌}
 use Rattle.std.specs.List.{list_any}
 use Rattle.std.specs.Ordering.{int_eq}
-use Rattle.qe_script.specs.declared.script.Command.{Command}
-use Rattle.qe_script.specs.declared.script.Command.TheVariants.{Insert, Find, Ids}
+use Rattle.qe_first_script.specs.declared.script.Command.{Command}
+use Rattle.qe_first_script.specs.declared.script.Command.TheVariants.{Insert, Find, Ids}
 use Rattle.qerun.specs.declared.document.Document.{Document}
 use Rattle.qerun.specs.declared.reply.Reply.{Reply}
 use Rattle.qerun.specs.declared.reply.Reply.TheVariants as reply

@@ -6,7 +6,7 @@ use Rattle.serde_json.specs.Data.{Data, put}
 use Rattle.serde_json.specs.Data as json
 use Rattle.serde_json.specs.Written.{compact_text}
 use Rattle.serde_json.specs.Find.{of_integer}
-use Rattle.qe_script.specs.declared.script.Command.{Command}
+use Rattle.qe_first_script.specs.declared.script.Command.{Command}
 use Rattle.qerun.specs.Plain.{plain_replay}
 use Rattle.qerun.specs.declared.document.Document.{Document}
 use Rattle.qerun.specs.declared.reply.Reply.{Reply}

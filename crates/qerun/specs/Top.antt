@@ -6,11 +6,11 @@ use Rattle.qe_base.specs.Lines.{placed_lines}
 use Rattle.qe_base.specs.Transfer.{script_limit, TakesAll, TakesSome, IsCutOff, IsTooLong, AppendsFront}
 use Rattle.qe_base.specs.declared.status.Status.{Status}
 use Rattle.qe_base.specs.declared.status.Status.TheVariants.{Done, ReadFault, WriteFault, Clash, BadScript, ScriptTooLong, NoMemory, BadWords}
-use Rattle.qe_script.specs.Script.{script_of}
-use Rattle.qe_script.specs.declared.script.Script.{Script}
-use Rattle.qe_script.specs.declared.script.ScriptFault.{ScriptFault}
-use Rattle.qe_script.specs.declared.script.ScriptFault.TheVariants.{At}
-use Rattle.qe_script.specs.declared.script.ScriptKind.TheVariants.{NotBuilt}
+use Rattle.qe_first_script.specs.Script.{script_of}
+use Rattle.qe_first_script.specs.declared.script.Script.{Script}
+use Rattle.qe_first_script.specs.declared.script.ScriptFault.{ScriptFault}
+use Rattle.qe_first_script.specs.declared.script.ScriptFault.TheVariants.{At}
+use Rattle.qe_first_script.specs.declared.script.ScriptKind.TheVariants.{NotBuilt}
 use Rattle.qe_show.specs.Lines.{Shows, first_not_hex}
 use Rattle.qerun.specs.Task.{task_of}
 use Rattle.qerun.specs.declared.task.Task.{Task}

@@ -2,8 +2,8 @@
 use Rattle.std.specs.Prelude.{◌≡◌, ℕ, ◌+◌, ℤ, List, [], ◌∷◌, ◌++◌, Contains, if◌then◌else◌}
 use Rattle.std.specs.Int.{w32, to_le_bytes, cast_unsigned}
 use Rattle.std.specs.Ordering.{int_eq}
-use Rattle.qe_script.specs.declared.script.Command.{Command}
-use Rattle.qe_script.specs.declared.script.Command.TheVariants.{Insert, Find, Ids}
+use Rattle.qe_first_script.specs.declared.script.Command.{Command}
+use Rattle.qe_first_script.specs.declared.script.Command.TheVariants.{Insert, Find, Ids}
 use Rattle.qe_tokens.specs.Tokens.{root_key_of}
 use Rattle.qe_tokens.specs.Labels.{IsClashFree}
 use Rattle.qe_tokens.specs.declared.words.Word.{Word}

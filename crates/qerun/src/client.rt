@@ -2,7 +2,7 @@
 
 ghost use Rattle.std.specs.Prelude.{◌≡◌, IfOk};
 ghost use Rattle.qe_base.specs.Answers.{Answers};
-ghost use Rattle.qe_script.specs.declared.script.Header.{Header};
+ghost use Rattle.qe_first_script.specs.declared.script.Header.{Header};
 ghost use Rattle.qerun.specs.Draws.{draws_key, server_ivs_at};
 ghost use Rattle.qerun.specs.Words.{item_of};
 ghost use Rattle.qerun.specs.Client.{IsClientOf, HasBytes, IsSent, Sends, tokens_of};
@@ -17,8 +17,8 @@ use crate::reply::Reply;
 use crate::request::{Payload, Request, WordTokens};
 use crate::stored::{ServerIvs, Stored, deciphered};
 use qe_base::{Bytes, Listing, NoMemory};
+use qe_first_script::{Command, Header};
 use qe_indexed::IndexedValue;
-use qe_script::{Command, Header};
 use qe_seal::{seal, unseal};
 use qe_tokens::{
     EdcToken, EscToken, ServerDataLevel1, ServerTokenLevel1, collections, edc, edc_contention,

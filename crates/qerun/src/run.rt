@@ -1,7 +1,7 @@
 //! A run: each command goes to the server, and its answer is opened.
 
 ghost use Rattle.std.specs.Prelude.{◌≡◌, IfOk};
-ghost use Rattle.qe_script.specs.Script.{AllInt32};
+ghost use Rattle.qe_first_script.specs.Script.{AllInt32};
 ghost use Rattle.qerun.specs.Plain.{plain_replay};
 ghost use Rattle.qerun.specs.Words.{NoClash};
 
@@ -10,7 +10,7 @@ use crate::opening::OpenFault;
 use crate::reply::Reply;
 use crate::server::Server;
 use qe_base::{Listing, NoMemory};
-use qe_script::{Command, Header};
+use qe_first_script::{Command, Header};
 use qe_seal::{cipher_laws, seal_laws};
 use std::alloc::Global;
 

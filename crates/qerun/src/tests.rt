@@ -5,7 +5,7 @@ use crate::request::Request;
 use crate::stored::indexed_value;
 use crate::top::replay;
 use qe_base::{Bytes, MemorySink, MemorySource, Status};
-use qe_script::{Command, read_script};
+use qe_first_script::{Command, read_script};
 use std::alloc::Global;
 use std::test::Fail;
 

@@ -8,7 +8,7 @@ use crate::run::run;
 use crate::task::{Task, task_of};
 use crate::texts::{bad_line_text, replies_text, too_long_text, usage_text};
 use qe_base::{Bytes, NoMemory, Sink, Source, Status, TakeFault, put_all, take_all};
-use qe_script::{ScriptFault, read_script};
+use qe_first_script::{ScriptFault, read_script};
 use qe_show::{ShowFault, show};
 use std::alloc::Global;
 

@@ -1,5 +1,5 @@
-use Rattle.qe_script.proofs.Int32Lemmas.{answer-int32}
+use Rattle.qe_script.proofs.ReadLemmas.{script_answer}
 use Rattle.qe_script.proofs.reading.read_script.Goals as goal
 
-pub returns-clause-int32 : goal.returns-clause-int32
-returns-clause-int32 c = answer-int32 _ c.args.bytes.now c.script.ensures
+pub returns-clause-fits : goal.returns-clause-fits
+returns-clause-fits c = script_answer c.what_is_read_is_a_schema.ensures _ c.args.bytes.now c.script_of.ensures

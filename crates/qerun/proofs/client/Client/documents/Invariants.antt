@@ -1,5 +1,5 @@
 use Rattle.std.proofs.Common.{◌≡◌, drop}
-use Rattle.qe_script.specs.declared.script.Header.{Header}
+use Rattle.qe_first_script.specs.declared.script.Header.{Header}
 use Rattle.qerun.specs.Client.{IsClientOf}
 use Rattle.qerun.specs.Opening.{documents_in}
 use Rattle.qerun.proofs.OpeningLemmas.{behind}

@@ -1,0 +1,3 @@
+pub mod FormLemmas
+pub mod Int32Lemmas
+pub mod ScriptLemmas

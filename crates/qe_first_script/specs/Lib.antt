@@ -1,0 +1,4 @@
+pub mod Forms
+pub mod Header
+pub mod Lines
+pub mod Script

@@ -1,0 +1,4 @@
+pub mod DocumentLemmas
+pub mod JsonLineLemmas
+pub mod OneLineLemmas
+pub mod UnprintableLemmas

@@ -1,0 +1,7 @@
+pub mod Documents
+pub mod Faults
+pub mod OneLine
+pub mod Phrases
+pub mod Refusals
+pub mod Replies
+pub mod Unprintable
