@@ -1,0 +1,4 @@
+pub mod ValueLemmas
+pub mod SlotLemmas
+pub mod DocumentLemmas
+pub mod SchemaLemmas

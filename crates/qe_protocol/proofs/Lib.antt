@@ -1,0 +1,12 @@
+pub mod QuietLemmas
+pub mod RefusalLemmas
+pub mod LastLemmas
+pub mod DocumentLemmas
+pub mod JobLemmas
+pub mod SearchLemmas
+pub mod UnitLemmas
+pub mod StepLemmas
+pub mod RowLemmas
+pub mod JournalLemmas
+pub mod TagLemmas
+pub mod ContentionLemmas

@@ -1,0 +1,12 @@
+pub mod State
+pub mod Counting
+pub mod Indexing
+pub mod Filters
+pub mod Documents
+pub mod Contention
+pub mod Units
+pub mod Jobs
+pub mod Next
+pub mod Laws
+pub mod UnitLaws
+pub mod Journal
