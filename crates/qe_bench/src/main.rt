@@ -5,6 +5,7 @@
 //! the cipher of one block, of 32 bytes of key and 16 of block: `bench/vectors` compares it with another program's.
 #![tactic(auto)]
 
+mod collections;
 mod documents;
 mod work;
 
@@ -47,7 +48,7 @@ fn result(alloc: Global, kind: &str, word: &str) -> Result<Option<Outcome>, NoMe
 
 fn usage(rt: &impl Eprint) -> io::Result<ExitCode> {
     eprintln!(rt;
-        "usage: qe_bench [aes N] [ctr N] [schedule N] [hmac N] [seal N] [bson N] [decode N] [encode N] [decode_nested N] [encode_nested N] [cipher HEX]"
+        "usage: qe_bench [aes N] [ctr N] [schedule N] [hmac N] [seal N] [bson N] [decode N] [encode N] [decode_nested N] [encode_nested N] [rows N] [links N] [finds N] [cipher HEX]"
     )?;
     Ok(ExitCode::from(2))
 }

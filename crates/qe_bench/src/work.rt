@@ -1,5 +1,6 @@
 //! The kinds of work, each done many times.
 
+use crate::collections::{finds, links, rows};
 use crate::documents::{decoded, encoded, mixed, nested};
 use hex::FromHex;
 use qe_aes::Aes256;
@@ -31,6 +32,12 @@ pub enum Work {
     DecodeNested,
     /// Writing it.
     EncodeNested,
+    /// Rows of 1,000 tokens, added and searched; a turn is a row.
+    Rows,
+    /// Pairs of a tag and a document, linked and unlinked; a turn is a pair.
+    Links,
+    /// Finds of 100 documents among 10^5.
+    Finds,
 }
 
 /// What so many turns give.
@@ -56,6 +63,9 @@ impl Work {
             "encode" => Some(Work::Encode),
             "decode_nested" => Some(Work::DecodeNested),
             "encode_nested" => Some(Work::EncodeNested),
+            "rows" => Some(Work::Rows),
+            "links" => Some(Work::Links),
+            "finds" => Some(Work::Finds),
             _ => None,
         }
     }
@@ -77,6 +87,9 @@ pub fn turned(alloc: Global, work: Work, turns: u64) -> Result<Outcome, NoMemory
         Work::Encode => encoded(alloc, &mixed(alloc)?, turns),
         Work::DecodeNested => decoded(alloc, &nested(alloc)?, turns),
         Work::EncodeNested => encoded(alloc, &nested(alloc)?, turns),
+        Work::Rows => rows(alloc, turns),
+        Work::Links => links(alloc, turns),
+        Work::Finds => finds(alloc, turns),
     }
 }
 

@@ -1,8 +1,11 @@
 //! AES-256 of FIPS 197, and its modes of NIST SP 800-38A.
 
-use crate::line::{Fault, Hex, bytes_of, counting};
+ghost use Rattle.std.specs.Prelude.{◌≤◌};
+
 use qe_aes::{Aes256, ctr, xor_front};
-use qe_seal::{cbc_decrypt, cbc_encrypt};
+use qe_line::{Fault, Hex, accepted, bytes_of, counting};
+use qe_seal::{CbcFault, cbc_decrypt, cbc_encrypt};
+use std::alloc::Global;
 
 const KEY: &str = "603deb1015ca71be2b73aef0857d77811f352c073b6108d72d9810a30914dff4";
 
@@ -33,14 +36,26 @@ fn print_block(rt: &impl Print) -> Result<(), Fault> {
 // SP 800-38A, F.5.5, whole and cut short: a part is enciphered as in the whole, and the rest stays.
 fn print_counter(rt: &impl Print) -> Result<(), Fault> {
     let key = bytes_of(KEY)?;
-    let iv = counting(0xf0);
     for len in [64, 63, 48, 33, 16, 5, 0] {
         let mut bytes: [u8; 64] = bytes_of(PLAIN)?;
-        ctr(&key, &iv, &mut bytes[..len]);
-        println!(rt; "ctr of {len} bytes: {}", Hex(&bytes))?;
-        Aes256::new(&key).ctr(&iv, &mut bytes[..len]);
-        println!(rt; "and back: {}", Hex(&bytes))?;
+        print_turned(rt, &key, &mut bytes, len)?;
     }
+    Ok(())
+}
+
+fn print_turned(
+    rt: &impl Print,
+    key: &[u8; 32],
+    bytes: &mut [u8; 64],
+    len: usize,
+) -> Result<(), Fault>
+    requires { len ≤ 64 }
+{
+    let iv = counting(0xf0);
+    ctr(key, &iv, &mut bytes[..len]);
+    println!(rt; "ctr of {len} bytes: {}", Hex(bytes))?;
+    Aes256::new(key).ctr(&iv, &mut bytes[..len]);
+    println!(rt; "and back: {}", Hex(bytes))?;
     Ok(())
 }
 
@@ -68,19 +83,20 @@ fn print_cbc(rt: &(impl Print + AllocGlobal)) -> Result<(), Fault> {
     let plain: [u8; 64] = bytes_of(PLAIN)?;
     let cipher = cbc_encrypt(rt.alloc(), &key, &counting(0), &plain[..16])?;
     println!(rt; "cbc encrypts 16 bytes: {}", Hex(cipher.slice()))?;
-    match cbc_decrypt(rt.alloc(), &key, &counting(0), cipher.slice()) {
-        Ok(plain) => println!(rt; "and back: {}", Hex(plain.slice()))?,
-        Err(_) => return Err(Fault::Refused),
-    }
+    print_back(rt, &key, cipher.slice())
+}
+
+fn print_back(rt: &(impl Print + AllocGlobal), key: &[u8; 32], cipher: &[u8]) -> Result<(), Fault> {
+    let plain = accepted(cbc_decrypt(rt.alloc(), key, &counting(0), cipher))?;
+    println!(rt; "and back: {}", Hex(plain.slice()))?;
     Ok(())
 }
 
 // Lengths that are none, and blocks that openssl enciphers without padding. They end in 00, 17 times 11, 03 02, and
 // 11 with 15 times 10; then in 01 and in 16 times 10.
 fn print_cbc_faults(rt: &(impl Print + AllocGlobal)) -> Result<(), Fault> {
-    let (key, iv) = (counting(0), counting(0x10));
     for length in [0, 1, 15, 17, 31] {
-        print_decrypted(rt, &key, &iv, &[0; 32][..length])?;
+        print_decrypted(rt, &[0; 32][..length])?;
     }
     for digits in [
         "46d6ec79493673d7c00d4dfa851a8686",
@@ -91,20 +107,21 @@ fn print_cbc_faults(rt: &(impl Print + AllocGlobal)) -> Result<(), Fault> {
         "5a6e045708fb7196f02e553d02c3a692",
     ] {
         let block: [u8; 16] = bytes_of(digits)?;
-        print_decrypted(rt, &key, &iv, &block)?;
+        print_decrypted(rt, &block)?;
     }
     Ok(())
 }
 
-fn print_decrypted(
-    rt: &(impl Print + AllocGlobal),
-    key: &[u8; 32],
-    iv: &[u8; 16],
-    cipher: &[u8],
-) -> Result<(), Fault> {
-    match cbc_decrypt(rt.alloc(), key, iv, cipher) {
-        Ok(plain) => println!(rt; "cbc decrypts {}: {} bytes", Hex(cipher), plain.len())?,
+// Under the key 00 to 1f and the IV 10 to 1f.
+fn print_decrypted(rt: &(impl Print + AllocGlobal), cipher: &[u8]) -> Result<(), Fault> {
+    match length_of_plain(rt.alloc(), cipher) {
+        Ok(length) => println!(rt; "cbc decrypts {}: {length} bytes", Hex(cipher))?,
         Err(fault) => println!(rt; "cbc decrypts {}: {fault:?}", Hex(cipher))?,
     }
     Ok(())
+}
+
+fn length_of_plain(alloc: Global, cipher: &[u8]) -> Result<usize, CbcFault> {
+    let plain = cbc_decrypt(alloc, &counting(0), &counting(0x10), cipher)?;
+    Ok(plain.len())
 }

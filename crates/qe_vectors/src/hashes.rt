@@ -1,6 +1,6 @@
 //! HMAC-SHA-256 of RFC 4231.
 
-use crate::line::{Fault, Hex};
+use qe_line::{Fault, Hex};
 use qe_seal::{HmacKey, hmac, prf1, prf2};
 
 /// Prints the vectors of keyed hashes.

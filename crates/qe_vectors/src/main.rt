@@ -1,15 +1,14 @@
 //! Prints what the public calls of the lower crates answer, a line for each vector: `stdout` holds the values of the
-//! standards, of libmongocrypt, of openssl and of Python programs. Read: line, then a module for each subject.
+//! standards, of libmongocrypt, of openssl and of Python programs. Read: a module for each subject.
 #![tactic(auto)]
 
 mod ciphers;
 mod hashes;
-mod line;
 mod sealed_values;
 mod streams;
 mod token_tree;
 
-use line::Fault;
+use qe_line::Fault;
 
 fn main(rt: HostRuntime) -> Result<(), Fault> {
     streams::print(&rt)?;

@@ -1,21 +1,16 @@
 //! Sealed values, as openssl makes them.
 
-use crate::line::{Fault, Hex, bytes_of, counting};
+use qe_base::{Bytes, NoMemory};
+use qe_line::{Fault, Hex, bytes_of, counting};
 use qe_seal::{SealFault, seal, unseal};
+use std::alloc::Global;
 
 const SEALED: &str = "101112131415161718191a1b1c1d1e1f2f54e8a316c8bffdcc51248d1664f017\
     22c635e90c728e38b5e8751a0059d4053152a1d13aea1d92704df4e517c40709";
 
 /// Prints what is sealed and unsealed under the key 00 to 5f.
 pub fn print(rt: &(impl Print + AllocGlobal)) -> Result<(), Fault> {
-    let sealed = seal(
-        rt.alloc(),
-        &counting(0),
-        &counting(0xa0),
-        &counting(0x10),
-        &[42, 0, 0, 0],
-    )?;
-    println!(rt; "sealed 2a000000: {}", Hex(sealed.slice()))?;
+    print_sealed(rt)?;
     let mut bytes: [u8; 64] = bytes_of(SEALED)?;
     print_unsealed(rt, &bytes)?;
     print_unsealed(rt, &[0; 63])?;
@@ -23,13 +18,25 @@ pub fn print(rt: &(impl Print + AllocGlobal)) -> Result<(), Fault> {
     print_unsealed(rt, &bytes)
 }
 
+fn print_sealed(rt: &(impl Print + AllocGlobal)) -> Result<(), Fault> {
+    let sealed = sealed(rt.alloc())?;
+    println!(rt; "sealed 2a000000: {}", Hex(sealed.slice()))?;
+    Ok(())
+}
+
+fn sealed(alloc: Global) -> Result<Bytes, NoMemory> {
+    let (key, id, iv) = (counting(0), counting(0xa0), counting(0x10));
+    seal(alloc, &key, &id, &iv, &[42, 0, 0, 0])
+}
+
 fn print_unsealed(rt: &(impl Print + AllocGlobal), bytes: &[u8]) -> Result<(), Fault> {
+    let length = bytes.len();
     match unseal(rt.alloc(), &counting(0), &counting(0xa0), bytes) {
-        Ok(plain) => println!(rt; "unsealed {} bytes: {}", bytes.len(), Hex(plain.slice()))?,
+        Ok(plain) => println!(rt; "unsealed {length} bytes: {}", Hex(plain.slice()))?,
         Err(SealFault::MacDiffers { want, got }) => {
             println!(rt; "the MAC is {}, not {}", Hex(&want), Hex(&got))?
         }
-        Err(fault) => println!(rt; "unsealed {} bytes: {fault:?}", bytes.len())?,
+        Err(fault) => println!(rt; "unsealed {length} bytes: {fault:?}")?,
     }
     Ok(())
 }

@@ -1,7 +1,7 @@
 //! The token tree and its identifiers, for the data key 00 to 5f and the int32 value 5.
 
-use crate::line::{Fault, Hex, counting};
 use qe_base::{Bytes, Duplicate};
+use qe_line::{Fault, Hex, counting};
 use qe_tokens::{
     EscTag, Label, LabelKind, Word, anchor_id, collections, document_tag, ecoc, edc,
     edc_contention, edc_derived, edc_twice, esc, esc_contention, esc_derived, esc_tag, esc_value,

@@ -1,142 +1,112 @@
 //! Documents of BSON: what is read and written again, and the first faults.
 
-use crate::line::{Fault, Hex};
-use qe_base::Duplicate;
-use qe_bson::{Reader, decode, encode};
+use qe_base::{Bytes, Duplicate};
+use qe_document::{BsonFault, Document, decode, encode};
+use qe_line::{Fault, Hex, accepted};
 use std::alloc::Global;
 
-// A field of each type.
-const ALL_TYPES: &str =
-    "8b00000001640000010203040506070273000400000068c3a900036f00080000000a7800000461000d00000008300001\
-    08310000000562000300000004010203076900000102030405060708090a0b097400ffffffffffffffff106e00feffff\
-    ff1171000500000000000000126c00fdffffffffffffff137a00000102030405060708090a0b0c0d0e0f00";
+// A field of each type; two fields; none.
+const WRITTEN: [&[u8]; 3] = [
+    b"\x8b\0\0\0\x01d\0\0\x01\x02\x03\x04\x05\x06\x07\x02s\0\x04\0\0\0h\xc3\xa9\0\x03o\0\x08\0\
+      \0\0\x0ax\0\0\x04a\0\x0d\0\0\0\x08\x30\0\x01\x08\x31\0\0\0\x05b\0\x03\0\0\0\x04\x01\x02\
+      \x03\x07i\0\0\x01\x02\x03\x04\x05\x06\x07\x08\x09\x0a\x0b\x09t\0\xff\xff\xff\xff\xff\xff\
+      \xff\xff\x10n\0\xfe\xff\xff\xff\x11q\0\x05\0\0\0\0\0\0\0\x12l\0\xfd\xff\xff\xff\xff\xff\
+      \xff\xff\x13z\0\0\x01\x02\x03\x04\x05\x06\x07\x08\x09\x0a\x0b\x0c\x0d\x0e\x0f\0",
+    b"\x17\0\0\0\x10_id\0\x01\0\0\0\x10age\0\x05\0\0\0\0",
+    b"\x05\0\0\0\0",
+];
+
+// Faults of the length, of types and of values.
+const LENGTHS: [&[u8]; 12] = [
+    b"\x04\0\0\0\0",
+    b"\x05\0\0\0",
+    b"\x06\0\0\0\0\0",
+    b"\x05\0\0\0\x01",
+    b"\x08\0\0\0\x06a\0\0",
+    b"\x0b\0\0\0\x0aa\0\x0aa\0\0",
+    b"\x09\0\0\0\x08a\0\x02\0",
+    b"\x05\0\0\0\0\xff",
+    b"\x01\0\0\x01",
+    b"\0\0\0\x01",
+    b"\0\0\0\x80",
+    b"\x05\0",
+];
+
+// Strings, binaries and inner documents.
+const TEXTS: [&[u8]; 10] = [
+    b"\x0e\0\0\0\x02a\0\x02\0\0\0\x80\0\0",
+    b"\x0f\0\0\0\x02a\0\x03\0\0\0\xc0\x80\0\0",
+    b"\x0e\0\0\0\x02a\0\x02\0\0\0\0\0\0",
+    b"\x0e\0\0\0\x02a\0\x02\0\0\0xy\0",
+    b"\x0e\0\0\0\x02a\0\x02\0\0\0\x80y\0",
+    b"\x0d\0\0\0\x02a\0\0\0\0\0\0\0",
+    b"\x0e\0\0\0\x02a\0\x03\0\0\0x\0\0",
+    b"\x0e\0\0\0\x02a\0\xff\xff\xff\xffx\0\0",
+    b"\x0d\0\0\0\x05a\0\xff\xff\xff\xff\0\0",
+    b"\x0d\0\0\0\x03a\0\x04\0\0\0\0\0",
+];
+
+// Names, of arrays too.
+const NAMES: [&[u8]; 10] = [
+    b"\x08\0\0\0\x0a\xff\0\0",
+    b"\x0a\0\0\0\x0a\xed\xa0\x80\0\0",
+    b"\x08\0\0\0\x0aab\0",
+    b"\x10\0\0\0\x04a\0\x08\0\0\0\x0a\x31\0\0\0",
+    b"\x13\0\0\0\x04a\0\x0b\0\0\0\x0a\x30\0\x0a\x30\0\0\0",
+    b"\x11\0\0\0\x04a\0\x09\0\0\0\x0a\x30\x30\0\0\0",
+    b"\x0f\0\0\0\x04a\0\x07\0\0\0\x0a\0\0\0",
+    b"\x10\0\0\0\x04a\0\x08\0\0\0\x0a\xff\0\0\0",
+    b"\x0c\0\0\0\x0aa\0\x08a\0\x02\0",
+    b"\x10\0\0\0\x03a\0\x08\0\0\0\x0aa\0\0\0",
+];
 
 /// Prints what is read of bytes.
 pub fn print(rt: &(impl Print + AllocGlobal)) -> Result<(), Fault> {
-    for digits in [
-        ALL_TYPES,
-        "17000000105f6964000100000010616765000500000000",
-        "0500000000",
-    ] {
-        print_written(rt, digits)?;
+    for bytes in WRITTEN {
+        print_written(rt, bytes)?;
     }
-    print_first_faults(rt)?;
-    print_texts(rt)?;
-    print_names(rt)?;
-    print_fed(rt)?;
-    print_fed_fault(rt)
+    print_all(rt, &LENGTHS)?;
+    print_all(rt, &TEXTS)?;
+    print_all(rt, &NAMES)
+}
+
+fn print_all(rt: &(impl Print + AllocGlobal), table: &[&[u8]]) -> Result<(), Fault> {
+    for bytes in table {
+        print_decoded(rt, bytes)?;
+    }
+    Ok(())
 }
 
 // A document, copied and written again.
-fn print_written(rt: &(impl Print + AllocGlobal), digits: &str) -> Result<(), Fault> {
-    let bytes = hex::decode(rt.alloc(), digits)?;
-    let (document, used) = decode(rt.alloc(), bytes.as_slice())?;
-    let copied = document.copy()?;
-    let written = encode(rt.alloc(), &copied)?;
+fn print_written(rt: &(impl Print + AllocGlobal), bytes: &[u8]) -> Result<(), Fault> {
+    let (written, used) = written_of(rt.alloc(), bytes)?;
     println!(rt; "document of {used} bytes: {}", Hex(written.slice()))?;
     Ok(())
 }
 
-/// Prints what is read of bytes that the digits are.
-pub fn print_decoded(rt: &(impl Print + AllocGlobal), digits: &str) -> Result<(), Fault> {
-    let bytes = hex::decode(rt.alloc(), digits)?;
-    match decode(rt.alloc(), bytes.as_slice()) {
-        Ok((document, used)) => {
-            println!(rt; "decode {digits}: {} fields, {used} bytes", document.len())?
+fn written_of(alloc: Global, bytes: &[u8]) -> Result<(Bytes, usize), Fault> {
+    let (document, used) = accepted(decode(alloc, bytes))?;
+    let written = copied(alloc, &document)?;
+    Ok((written, used))
+}
+
+fn copied(alloc: Global, document: &Document) -> Result<Bytes, Fault> {
+    let copied = document.copy()?;
+    accepted(encode(alloc, &copied))
+}
+
+fn print_decoded(rt: &(impl Print + AllocGlobal), bytes: &[u8]) -> Result<(), Fault> {
+    match read_of(rt.alloc(), bytes) {
+        Ok((fields, used)) => {
+            println!(rt; "decode {}: {fields} fields, {used} bytes", Hex(bytes))?
         }
-        Err(fault) => println!(rt; "decode {digits}: {fault:?}")?,
+        Err(fault) => println!(rt; "decode {}: {fault:?}", Hex(bytes))?,
     }
     Ok(())
 }
 
-// Faults of the length, of types and of values.
-fn print_first_faults(rt: &(impl Print + AllocGlobal)) -> Result<(), Fault> {
-    for digits in [
-        "0400000000",
-        "05000000",
-        "060000000000",
-        "0500000001",
-        "0800000006610000",
-        "0b0000000a61000a610000",
-        "090000000861000200",
-        "0500000000ff",
-        "01000001",
-        "00000001",
-        "00000080",
-        "0500",
-    ] {
-        print_decoded(rt, digits)?;
-    }
-    Ok(())
-}
-
-// Strings, binaries and inner documents.
-fn print_texts(rt: &(impl Print + AllocGlobal)) -> Result<(), Fault> {
-    for digits in [
-        "0e00000002610002000000800000",
-        "0f00000002610003000000c0800000",
-        "0e00000002610002000000000000",
-        "0e00000002610002000000787900",
-        "0e00000002610002000000807900",
-        "0d000000026100000000000000",
-        "0e00000002610003000000780000",
-        "0e000000026100ffffffff780000",
-        "0d000000056100ffffffff0000",
-        "0d000000036100040000000000",
-    ] {
-        print_decoded(rt, digits)?;
-    }
-    Ok(())
-}
-
-// Names, of arrays too.
-fn print_names(rt: &(impl Print + AllocGlobal)) -> Result<(), Fault> {
-    for digits in [
-        "080000000aff0000",
-        "0a0000000aeda0800000",
-        "080000000a616200",
-        "10000000046100080000000a31000000",
-        "130000000461000b0000000a30000a30000000",
-        "11000000046100090000000a3030000000",
-        "0f000000046100070000000a000000",
-        "10000000046100080000000aff000000",
-        "0c0000000a61000861000200",
-        "10000000036100080000000a61000000",
-    ] {
-        print_decoded(rt, digits)?;
-    }
-    Ok(())
-}
-
-// A document fed byte by byte, and the beginning of another.
-fn print_fed(rt: &(impl Print + AllocGlobal)) -> Result<(), Fault> {
-    let bytes = hex::decode(rt.alloc(), ALL_TYPES)?;
-    let mut reader = Reader::new(rt.alloc());
-    for (i, byte) in bytes.iter().enumerate() {
-        if let Some((_, used)) = reader.feed(&[*byte])? {
-            println!(rt; "fed: a document at byte {i}, {used} used")?;
-        }
-    }
-    print_unfinished(rt, reader)
-}
-
-fn print_unfinished(rt: &impl Print, reader: Reader) -> Result<(), Fault> {
-    let mut reader = reader;
-    if reader.feed(&[5, 0, 0])?.is_none() {
-        println!(rt; "finished: {:?}", reader.finish())?;
-    }
-    Ok(())
-}
-
-// A fault stays.
-fn print_fed_fault(rt: &(impl Print + AllocGlobal)) -> Result<(), Fault> {
-    let mut reader = Reader::new(rt.alloc());
-    for piece in [[4, 0, 0, 0].as_slice(), [9].as_slice()] {
-        match reader.feed(piece) {
-            Ok(_) => return Err(Fault::Refused),
-            Err(fault) => println!(rt; "fed {}: {fault:?}", Hex(piece))?,
-        }
-    }
-    println!(rt; "finished: {:?}", reader.finish())?;
-    Ok(())
+/// How many fields the document that begins the bytes has, and how many bytes.
+pub fn read_of(alloc: Global, bytes: &[u8]) -> Result<(usize, usize), BsonFault> {
+    let (document, used) = decode(alloc, bytes)?;
+    Ok((document.len(), used))
 }

@@ -1,31 +1,32 @@
 //! Documents of many levels and of many bytes, read and written.
 
-use crate::line::{Fault, Hex};
+use crate::documents::read_of;
 use qe_base::{Bytes, NoMemory, Text};
-use qe_bson::{Document, Value, Values, decode, encode};
+use qe_document::{Document, EncodeFault, Value, Values, encode};
+use qe_line::{Fault, Hex, accepted};
 use std::alloc::Global;
+
+// How many levels, the head of each, and the innermost one's length.
+const LEVELS: [(u32, [u8; 3], u8); 6] = [
+    (2, [3, 0x61, 0], 5),
+    (100, [3, 0x61, 0], 5),
+    (101, [3, 0x61, 0], 5),
+    (101, [4, 0x30, 0], 5),
+    (100, [4, 0x30, 0], 5),
+    (101, [3, 0x61, 0], 4),
+];
 
 /// Prints what is read of levels of documents, and what is written of long and of deep ones.
 pub fn print(rt: &(impl Print + AllocGlobal)) -> Result<(), Fault> {
-    for (levels, item, least) in [
-        (2, [3, 0x61, 0], 5),
-        (100, [3, 0x61, 0], 5),
-        (101, [3, 0x61, 0], 5),
-        (101, [4, 0x30, 0], 5),
-        (100, [4, 0x30, 0], 5),
-        (101, [3, 0x61, 0], 4),
-    ] {
+    for (levels, item, least) in LEVELS {
         print_levels(rt, levels, &item, least)?;
     }
-    for levels in [100, 101] {
-        print_deep(rt, levels)?;
-    }
-    for levels in [99, 100] {
-        print_arrays(rt, levels)?;
-    }
-    for count in [16_777_203, 16_777_204] {
-        print_zeros(rt, count)?;
-    }
+    print_deep(rt, 100)?;
+    print_deep(rt, 101)?;
+    print_arrays(rt, 99)?;
+    print_arrays(rt, 100)?;
+    print_zeros(rt, 16_777_203)?;
+    print_zeros(rt, 16_777_204)?;
     print_before_zero(rt)?;
     print_inner_zero(rt)?;
     print_before_deep(rt)
@@ -38,7 +39,7 @@ fn print_levels(
     least: u8,
 ) -> Result<(), Fault> {
     let bytes = levels_of(rt.alloc(), levels, item, least)?;
-    match decode(rt.alloc(), bytes.slice()) {
+    match read_of(rt.alloc(), bytes.slice()) {
         Ok((_, used)) => println!(rt; "{levels} levels of {}, {least}: {used} bytes", Hex(item))?,
         Err(fault) => println!(rt; "{levels} levels of {}, {least}: {fault:?}", Hex(item))?,
     }
@@ -62,19 +63,14 @@ fn levels_of(alloc: Global, levels: u32, item: &[u8; 3], least: u8) -> Result<By
 
 /// Adds a field.
 pub fn put(alloc: Global, document: &mut Document, name: &str, value: Value) -> Result<(), Fault> {
-    document.push(Text::of(alloc, name)?, value)?;
-    Ok(())
+    let name = Text::of(alloc, name)?;
+    accepted(document.push(name, value))
 }
 
-// So many documents inside each other.
-fn deep(alloc: Global, levels: u32) -> Result<Document, Fault> {
-    let mut document = Document::new(alloc);
-    for _ in 1..levels {
-        let mut outer = Document::new(alloc);
-        put(alloc, &mut outer, "a", Value::Doc(document))?;
-        document = outer;
-    }
-    Ok(document)
+/// How many bytes a document is written as.
+pub fn size_of(alloc: Global, document: &Document) -> Result<usize, EncodeFault> {
+    let bytes = encode(alloc, document)?;
+    Ok(bytes.len())
 }
 
 fn print_encoded(
@@ -82,11 +78,27 @@ fn print_encoded(
     what: &str,
     document: &Document,
 ) -> Result<(), Fault> {
-    match encode(rt.alloc(), document) {
-        Ok(bytes) => println!(rt; "encode {what}: {} bytes", bytes.len())?,
+    match size_of(rt.alloc(), document) {
+        Ok(size) => println!(rt; "encode {what}: {size} bytes")?,
         Err(fault) => println!(rt; "encode {what}: {fault:?}")?,
     }
     Ok(())
+}
+
+// A document in a document.
+fn inside(alloc: Global, document: Document) -> Result<Document, Fault> {
+    let mut outer = Document::new(alloc);
+    put(alloc, &mut outer, "a", Value::Doc(document))?;
+    Ok(outer)
+}
+
+// So many documents inside each other.
+fn deep(alloc: Global, levels: u32) -> Result<Document, Fault> {
+    let mut document = Document::new(alloc);
+    for _ in 1..levels {
+        document = inside(alloc, document)?;
+    }
+    Ok(document)
 }
 
 fn print_deep(rt: &(impl Print + AllocGlobal), levels: u32) -> Result<(), Fault> {
@@ -94,32 +106,37 @@ fn print_deep(rt: &(impl Print + AllocGlobal), levels: u32) -> Result<(), Fault>
     print_encoded(rt, "levels of documents", &document)
 }
 
+// An array in an array.
+fn in_array(alloc: Global, array: Values) -> Result<Values, NoMemory> {
+    let mut outer = Values::new(alloc);
+    outer.push(Value::Array(array))?;
+    Ok(outer)
+}
+
 // So many arrays inside each other.
-fn arrays(alloc: Global, levels: u32) -> Result<Value, NoMemory> {
+fn put_arrays(alloc: Global, document: &mut Document, levels: u32) -> Result<(), Fault> {
     let mut array = Values::new(alloc);
     for _ in 1..levels {
-        let mut outer = Values::new(alloc);
-        outer.push(Value::Array(array))?;
-        array = outer;
+        array = in_array(alloc, array)?;
     }
-    Ok(Value::Array(array))
+    put(alloc, document, "a", Value::Array(array))
 }
 
 fn print_arrays(rt: &(impl Print + AllocGlobal), levels: u32) -> Result<(), Fault> {
     let mut document = Document::new(rt.alloc());
-    put(rt.alloc(), &mut document, "a", arrays(rt.alloc(), levels)?)?;
+    put_arrays(rt.alloc(), &mut document, levels)?;
     print_encoded(rt, "levels of arrays", &document)
 }
 
 // A binary of so many zeros.
-fn zeros(alloc: Global, count: usize) -> Result<Value, NoMemory> {
+fn put_zeros(alloc: Global, document: &mut Document, count: usize) -> Result<(), Fault> {
     let bytes = Bytes::from_vec(alloc, vec![in alloc; 0; count]?);
-    Ok(Value::Binary { subtype: 0, bytes })
+    put(alloc, document, "a", Value::Binary { subtype: 0, bytes })
 }
 
 fn print_zeros(rt: &(impl Print + AllocGlobal), count: usize) -> Result<(), Fault> {
     let mut document = Document::new(rt.alloc());
-    put(rt.alloc(), &mut document, "a", zeros(rt.alloc(), count)?)?;
+    put_zeros(rt.alloc(), &mut document, count)?;
     print_encoded(rt, "many zeros", &document)
 }
 
@@ -134,26 +151,20 @@ fn print_before_zero(rt: &(impl Print + AllocGlobal)) -> Result<(), Fault> {
 fn print_inner_zero(rt: &(impl Print + AllocGlobal)) -> Result<(), Fault> {
     let mut inner = Document::new(rt.alloc());
     put(rt.alloc(), &mut inner, "\0", Value::Null)?;
-    let mut document = Document::new(rt.alloc());
-    put(rt.alloc(), &mut document, "a", Value::Doc(inner))?;
+    let document = inside(rt.alloc(), inner)?;
     print_encoded(rt, "a zero in an inner name", &document)
 }
 
 // Length is looked at before both.
 fn print_before_deep(rt: &(impl Print + AllocGlobal)) -> Result<(), Fault> {
     let mut document = Document::new(rt.alloc());
-    put(
-        rt.alloc(),
-        &mut document,
-        "a",
-        zeros(rt.alloc(), 16_777_204)?,
-    )?;
-    put(
-        rt.alloc(),
-        &mut document,
-        "b",
-        Value::Doc(deep(rt.alloc(), 101)?),
-    )?;
+    put_zeros(rt.alloc(), &mut document, 16_777_204)?;
+    put_deep(rt.alloc(), &mut document)?;
     put(rt.alloc(), &mut document, "\0", Value::Null)?;
     print_encoded(rt, "zeros, then levels, then a zero in a name", &document)
+}
+
+fn put_deep(alloc: Global, document: &mut Document) -> Result<(), Fault> {
+    let inner = deep(alloc, 101)?;
+    put(alloc, document, "b", Value::Doc(inner))
 }

@@ -1,43 +1,58 @@
 //! Values that are read from the bytes after an element's name, and written again.
 
-use crate::line::{Fault, Hex};
-use qe_bson::{value_bytes, value_from, value_kind};
+use qe_document::{BsonFault, Value, value_bytes, value_from, value_kind};
+use qe_line::{Fault, Hex, accepted};
+
+// By the byte of a type.
+const VALUES: [(u8, &[u8]); 14] = [
+    (0x10, b"\x05\0\0\0"),
+    (0x10, b"\x05\0\0\0\0"),
+    (0x10, b"\0\0\0"),
+    (0x06, b""),
+    (0x0a, b""),
+    (0x0a, b"\0"),
+    (0x02, b"\x02\0\0\0x\0"),
+    (0x02, b"\x02\0\0\0xy"),
+    (0x02, b"\x02\0\0\0\x80\0"),
+    (0x02, b"\x02\0\0\0x\0\x01\x02"),
+    (0x08, b"\x02"),
+    (0x03, b"\x05\0\0\0\0"),
+    (0x03, b"\x05\0\0\0\0\0"),
+    (0x05, b"\x02\0\0\0\x04\x01\x02"),
+];
 
 /// Prints values of each kind of refusal.
 pub fn print(rt: &(impl Print + AllocGlobal)) -> Result<(), Fault> {
-    for (kind, digits) in [
-        (0x10, "05000000"),
-        (0x10, "0500000000"),
-        (0x10, "000000"),
-        (0x06, ""),
-        (0x0a, ""),
-        (0x0a, "00"),
-        (0x02, "020000007800"),
-        (0x02, "020000007879"),
-        (0x02, "020000008000"),
-        (0x02, "0200000078000102"),
-        (0x08, "02"),
-        (0x03, "0500000000"),
-        (0x03, "050000000000"),
-        (0x05, "02000000040102"),
-    ] {
-        print_value(rt, kind, digits)?;
+    for (kind, bytes) in VALUES {
+        print_value(rt, kind, bytes)?;
     }
     Ok(())
 }
 
-fn print_value(rt: &(impl Print + AllocGlobal), kind: u8, digits: &str) -> Result<(), Fault> {
-    let bytes = hex::decode(rt.alloc(), digits)?;
-    match value_from(rt.alloc(), kind, bytes.as_slice()) {
-        Ok(value) => {
-            let written = value_bytes(rt.alloc(), &value)?;
-            let read = value_kind(&value);
-            println!(rt;
-                "value {kind} {digits}: type {read} [{}]",
-                Hex(written.slice())
-            )?
-        }
-        Err(fault) => println!(rt; "value {kind} {digits}: {fault:?}")?,
+fn print_value(rt: &(impl Print + AllocGlobal), kind: u8, bytes: &[u8]) -> Result<(), Fault> {
+    match value_from(rt.alloc(), kind, bytes) {
+        Ok(value) => print_written(rt, kind, bytes, &value),
+        Err(fault) => print_fault(rt, kind, bytes, fault),
     }
+}
+
+fn print_written(
+    rt: &(impl Print + AllocGlobal),
+    kind: u8,
+    bytes: &[u8],
+    value: &Value,
+) -> Result<(), Fault> {
+    let read = value_kind(value);
+    let written = accepted(value_bytes(rt.alloc(), value))?;
+    println!(rt;
+        "value {kind} {}: type {read} [{}]",
+        Hex(bytes),
+        Hex(written.slice())
+    )?;
+    Ok(())
+}
+
+fn print_fault(rt: &impl Print, kind: u8, bytes: &[u8], fault: BsonFault) -> Result<(), Fault> {
+    println!(rt; "value {kind} {}: {fault:?}", Hex(bytes))?;
     Ok(())
 }

@@ -1,8 +1,8 @@
 //! Indexed values, as a Python program stores them.
 
-use crate::line::{Fault, Hex, bytes_of, counting};
-use qe_base::{Bytes, Duplicate, NoMemory};
-use qe_indexed::{Block, IndexedValue, make_block, open_block};
+use qe_base::{Bytes, Duplicate, Ids, NoMemory};
+use qe_indexed::{Block, IndexedFault, IndexedValue, make_block, open_block};
+use qe_line::{Fault, Hex, accepted, bytes_of, counting};
 use qe_tokens::{EdcTwice, ServerDerived};
 use std::alloc::Global;
 
@@ -45,10 +45,15 @@ pub fn print(rt: &(impl Print + AllocGlobal)) -> Result<(), Fault> {
 
 // The parts of a value, and its bytes again.
 fn print_value(rt: &(impl Print + AllocGlobal), bytes: &[u8]) -> Result<(), Fault> {
-    let value = IndexedValue::read(rt.alloc(), bytes)?;
-    print_head(rt, &value)?;
-    print_parts(rt, &value)?;
-    print_written(rt, &value)
+    let value = accepted(IndexedValue::read(rt.alloc(), bytes))?;
+    print_parts(rt, &value)
+}
+
+fn print_parts(rt: &(impl Print + AllocGlobal), value: &IndexedValue) -> Result<(), Fault> {
+    print_head(rt, value)?;
+    print_all_blocks(rt, value)?;
+    print_tags(rt, value)?;
+    print_written(rt, value)
 }
 
 fn print_head(rt: &impl Print, value: &IndexedValue) -> Result<(), Fault> {
@@ -62,7 +67,7 @@ fn print_head(rt: &impl Print, value: &IndexedValue) -> Result<(), Fault> {
     Ok(())
 }
 
-fn print_parts(rt: &impl Print, value: &IndexedValue) -> Result<(), Fault> {
+fn print_all_blocks(rt: &impl Print, value: &IndexedValue) -> Result<(), Fault> {
     for i in 0..value.blocks.len() {
         println!(rt;
             "block {i}: {} with tag {}",
@@ -73,11 +78,19 @@ fn print_parts(rt: &impl Print, value: &IndexedValue) -> Result<(), Fault> {
     Ok(())
 }
 
-fn print_written(rt: &(impl Print + AllocGlobal), value: &IndexedValue) -> Result<(), Fault> {
+fn print_tags(rt: &(impl Print + AllocGlobal), value: &IndexedValue) -> Result<(), Fault> {
     let tags = value.tags(rt.alloc())?;
+    print_ids(rt, &tags)
+}
+
+fn print_ids(rt: &impl Print, tags: &Ids) -> Result<(), Fault> {
     for tag in tags.slice() {
         println!(rt; "tag: {}", Hex(tag))?;
     }
+    Ok(())
+}
+
+fn print_written(rt: &(impl Print + AllocGlobal), value: &IndexedValue) -> Result<(), Fault> {
     let written = written_of(rt.alloc(), value)?;
     println!(rt; "written: {}", Hex(written.slice()))?;
     Ok(())
@@ -115,7 +128,11 @@ fn print_block(rt: &impl Print, block: &[u8; 96], server: &ServerDerived) -> Res
 // The zeros of another item's block aren't zeros.
 fn print_foreign(rt: &(impl Print + AllocGlobal)) -> Result<(), Fault> {
     let bytes: [u8; 227] = bytes_of(RANGE)?;
-    let value = IndexedValue::read(rt.alloc(), &bytes)?;
+    let value = accepted(IndexedValue::read(rt.alloc(), &bytes))?;
+    print_zeros(rt, &value)
+}
+
+fn print_zeros(rt: &impl Print, value: &IndexedValue) -> Result<(), Fault> {
     let server = ServerDerived(bytes_of(OF_ROOT.1)?);
     for block in value.blocks.slice() {
         println!(rt; "zeros: {}", open_block(&block.0, &server).2)?;
@@ -123,24 +140,27 @@ fn print_foreign(rt: &(impl Print + AllocGlobal)) -> Result<(), Fault> {
     Ok(())
 }
 
-// The first refusal of a value's first bytes, by its first byte and its edge count.
+// A value's first byte, its edge count, and its size.
+const REFUSED: [(u8, u8, usize); 14] = [
+    (14, 0, 0),
+    (0, 0, 1),
+    (13, 1, 300),
+    (16, 1, 300),
+    (14, 0, 129),
+    (14, 0, 130),
+    (15, 0, 18),
+    (15, 0, 19),
+    (15, 0, 300),
+    (15, 1, 130),
+    (15, 1, 131),
+    (15, 2, 226),
+    (15, 2, 227),
+    (15, 2, 300),
+];
+
+// The first refusal of a value's first bytes.
 fn print_refusals(rt: &(impl Print + AllocGlobal)) -> Result<(), Fault> {
-    for (first, count, size) in [
-        (14, 0, 0),
-        (0, 0, 1),
-        (13, 1, 300),
-        (16, 1, 300),
-        (14, 0, 129),
-        (14, 0, 130),
-        (15, 0, 18),
-        (15, 0, 19),
-        (15, 0, 300),
-        (15, 1, 130),
-        (15, 1, 131),
-        (15, 2, 226),
-        (15, 2, 227),
-        (15, 2, 300),
-    ] {
+    for (first, count, size) in REFUSED {
         let mut bytes = [0; 300];
         bytes[0] = first;
         bytes[18] = count;
@@ -152,9 +172,14 @@ fn print_refusals(rt: &(impl Print + AllocGlobal)) -> Result<(), Fault> {
 fn print_read(rt: &(impl Print + AllocGlobal), bytes: &[u8]) -> Result<(), Fault> {
     let size = bytes.len();
     let head = Hex(&bytes[..size.min(19)]);
-    match IndexedValue::read(rt.alloc(), bytes) {
-        Ok(value) => println!(rt; "{size} bytes {head}: {} blocks", value.blocks.len())?,
+    match blocks_in(rt.alloc(), bytes) {
+        Ok(blocks) => println!(rt; "{size} bytes {head}: {blocks} blocks")?,
         Err(fault) => println!(rt; "{size} bytes {head}: {fault:?}")?,
     }
     Ok(())
+}
+
+fn blocks_in(alloc: Global, bytes: &[u8]) -> Result<usize, IndexedFault> {
+    let value = IndexedValue::read(alloc, bytes)?;
+    Ok(value.blocks.len())
 }

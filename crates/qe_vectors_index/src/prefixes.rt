@@ -2,10 +2,11 @@
 
 ghost use Rattle.std.specs.Prelude.{All};
 ghost use Rattle.qe_edges.specs.Prefixes.{IsSpelled};
+ghost use Rattle.qe_edges.specs.Rules.{InDomain};
 
-use crate::line::Fault;
-use qe_base::Duplicate;
-use qe_edges::{Domain, Edges};
+use qe_base::{Duplicate, NoMemory};
+use qe_edges::{Domain, Edge, Edges};
+use qe_line::{Fault, accepted};
 use std::alloc::{AllocError, Global};
 
 /// Prints edges and covers, and which rules make no domain.
@@ -17,31 +18,49 @@ pub fn print(rt: &(impl Print + AllocGlobal)) -> Result<(), Fault> {
     print_faults(rt)
 }
 
+// Adds a blank and the text of a prefix.
+fn add_text(all: &mut String, edge: &Edge) -> Result<(), AllocError>
+    requires { IsSpelled edge.now }
+{
+    let mut text = [0; 64];
+    let len = edge.text(&mut text);
+    all.push(' ')?;
+    for byte in text.iter().take(len) {
+        all.push(char::from(*byte))?;
+    }
+    Ok(())
+}
+
 // The texts of prefixes, with a blank before each.
 fn texts(alloc: Global, edges: &Edges) -> Result<String, AllocError>
     requires { All IsSpelled edges.now }
 {
     let mut all = String::new(alloc);
     for edge in edges.slice() {
-        let mut text = [0; 64];
-        let len = edge.text(&mut text);
-        all.push(' ')?;
-        for byte in text.iter().take(len) {
-            all.push(char::from(*byte))?;
-        }
+        add_text(&mut all, edge)?;
     }
     Ok(all)
+}
+
+fn edges_text(alloc: Global, domain: &Domain, v: i64) -> Result<String, Fault> {
+    if !domain.holds(v) {
+        return Err(Fault::Refused);
+    }
+    let edges = domain.edges(alloc, v)?;
+    Ok(texts(alloc, &edges)?)
+}
+
+fn cover_text(alloc: Global, domain: &Domain, lo: i64, hi: i64) -> Result<String, Fault> {
+    let cover = domain.cover(alloc, lo, hi)?;
+    Ok(texts(alloc, &cover)?)
 }
 
 // The edges of 5 in 0 to 7.
 fn print_small_edges(rt: &(impl Print + AllocGlobal)) -> Result<(), Fault> {
     for (sparsity, trim) in [(1, 0), (2, 0), (1, 2)] {
-        let domain = Domain::new(0, 7, sparsity, Some(trim))?;
-        if domain.holds(5) {
-            let edges = domain.edges(rt.alloc(), 5)?;
-            let texts = texts(rt.alloc(), &edges)?;
-            println!(rt; "edges of 5, sparsity {sparsity}, trim {trim}:{texts}")?;
-        }
+        let domain = accepted(Domain::new(0, 7, sparsity, Some(trim)))?;
+        let texts = edges_text(rt.alloc(), &domain, 5)?;
+        println!(rt; "edges of 5, sparsity {sparsity}, trim {trim}:{texts}")?;
     }
     Ok(())
 }
@@ -55,9 +74,8 @@ fn print_small_covers(rt: &(impl Print + AllocGlobal)) -> Result<(), Fault> {
         (7, 1, 100, 100),
         (7, 1, -9, 9),
     ] {
-        let domain = Domain::new(0, max, sparsity, Some(0))?;
-        let cover = domain.cover(rt.alloc(), lo, hi)?;
-        let texts = texts(rt.alloc(), &cover)?;
+        let domain = accepted(Domain::new(0, max, sparsity, Some(0)))?;
+        let texts = cover_text(rt.alloc(), &domain, lo, hi)?;
         println!(rt; "cover of {lo} to {hi} in 0 to {max}, sparsity {sparsity}:{texts}")?;
     }
     Ok(())
@@ -65,7 +83,7 @@ fn print_small_covers(rt: &(impl Print + AllocGlobal)) -> Result<(), Fault> {
 
 // The whole of int32 with the defaults.
 fn print_int32(rt: &(impl Print + AllocGlobal)) -> Result<(), Fault> {
-    let domain = Domain::new(i64::from(i32::MIN), i64::from(i32::MAX), 2, None)?;
+    let domain = accepted(Domain::new(i64::from(i32::MIN), i64::from(i32::MAX), 2, None))?;
     let (bits, sparsity, trim) = (domain.bits(), domain.sparsity(), domain.trim());
     println!(rt; "int32: bits {bits}, sparsity {sparsity}, trim {trim}")?;
     for v in [i32::MIN, -1, 0, i32::MAX] {
@@ -80,15 +98,22 @@ fn print_number_of_edges(
     v: i64,
 ) -> Result<(), Fault> {
     if domain.holds(v) {
-        let edges = domain.edges(rt.alloc(), v)?;
-        println!(rt; "edges of {v}: {}", edges.len())?;
+        let count = number_of_edges(rt.alloc(), domain, v)?;
+        println!(rt; "edges of {v}: {count}")?;
     }
     Ok(())
 }
 
+fn number_of_edges(alloc: Global, domain: &Domain, v: i64) -> Result<usize, NoMemory>
+    requires { InDomain domain.now v }
+{
+    let edges = domain.edges(alloc, v)?;
+    Ok(edges.len())
+}
+
 // The whole of int64.
 fn print_int64(rt: &(impl Print + AllocGlobal)) -> Result<(), Fault> {
-    let domain = Domain::new(i64::MIN, i64::MAX, 8, Some(0))?;
+    let domain = accepted(Domain::new(i64::MIN, i64::MAX, 8, Some(0)))?;
     let (min, max, bits) = (domain.min(), domain.max(), domain.bits());
     println!(rt; "int64: {min} to {max}, bits {bits}")?;
     print_cover(rt, &domain, i64::MIN, i64::MAX)?;
@@ -105,14 +130,19 @@ fn print_cover(
     lo: i64,
     hi: i64,
 ) -> Result<(), Fault> {
-    let cover = domain.cover(rt.alloc(), lo, hi)?;
-    if cover.len() == 1 {
-        let texts = texts(rt.alloc(), &cover)?;
+    let count = number_in_cover(rt.alloc(), domain, lo, hi)?;
+    if count == 1 {
+        let texts = cover_text(rt.alloc(), domain, lo, hi)?;
         println!(rt; "cover of {lo} to {hi}:{texts}")?;
     } else {
-        println!(rt; "cover of {lo} to {hi}: {} prefixes", cover.copy()?.len())?;
+        println!(rt; "cover of {lo} to {hi}: {count} prefixes")?;
     }
     Ok(())
+}
+
+fn number_in_cover(alloc: Global, domain: &Domain, lo: i64, hi: i64) -> Result<usize, NoMemory> {
+    let cover = domain.cover(alloc, lo, hi)?;
+    Ok(cover.copy()?.len())
 }
 
 fn print_faults(rt: &impl Print) -> Result<(), Fault> {

@@ -1,7 +1,7 @@
 //! Scripts: the first line that isn't read, and what the lines say.
 
 use crate::line::{Fault, Hex};
-use qe_script::{Command, Header, ScriptFault, read_script};
+use qe_first_script::{Command, Header, ScriptFault, read_script};
 use std::alloc::{AllocError, Global};
 
 const SEED: &str = "0000000000000000000000000000000000000000000000000000000000000000";

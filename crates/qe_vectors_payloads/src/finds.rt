@@ -1,9 +1,10 @@
 //! Payloads of finds, as another program writes them.
 
 use crate::inserts::{print_carried, print_malformed};
-use crate::line::{Fault, Hex, put};
-use qe_base::{Bytes, Text};
-use qe_document::{Document, EncodeFault, Value, Values, encode};
+use qe_base::Bytes;
+use qe_document::{Document, Value, Values, encode};
+use qe_line::{Fault, Hex, accepted};
+use qe_parts::put;
 use qe_payload::{
     FindEdge, FindEdges, FindEqual, FindRange, read_equal, read_range, write_equal, write_range,
 };
@@ -70,14 +71,14 @@ fn print_equal(rt: &(impl Print + AllocGlobal), digits: &str) -> Result<(), Faul
     }
 }
 
-fn equal_of(alloc: Global) -> Result<Bytes, EncodeFault> {
+fn equal_of(alloc: Global) -> Result<Bytes, Fault> {
     let payload = FindEqual {
         d: [0x11; 32],
         s: [0x22; 32],
         l: [0x33; 32],
         cm: 3,
     };
-    write_equal(alloc, &payload)
+    accepted(write_equal(alloc, &payload))
 }
 
 fn print_equal_refusals(rt: &(impl Print + AllocGlobal)) -> Result<(), Fault> {
@@ -120,8 +121,8 @@ fn print_payload(rt: &impl Print, payload: &FindRange) -> Result<(), Fault> {
 
 fn range_of(alloc: Global) -> Result<Bytes, Fault> {
     let mut extra = Document::new(alloc);
-    extra.push(Text::of(alloc, "sp")?, Value::Int64(2))?;
-    extra.push(Text::of(alloc, "mx")?, Value::Int32(9))?;
+    put(alloc, &mut extra, "sp", Value::Int64(2))?;
+    put(alloc, &mut extra, "mx", Value::Int32(9))?;
     let first = FindEdge {
         d: [0x11; 32],
         s: [0x22; 32],
@@ -138,7 +139,7 @@ fn range_of(alloc: Global) -> Result<Bytes, Fault> {
         payload_id: -2,
         extra,
     };
-    Ok(write_range(alloc, &payload)?)
+    accepted(write_range(alloc, &payload))
 }
 
 fn print_range_refusals(rt: &(impl Print + AllocGlobal)) -> Result<(), Fault> {
@@ -196,6 +197,6 @@ fn many_edges(alloc: Global) -> Result<Bytes, Fault> {
     let mut document = Document::new(alloc);
     put(alloc, &mut document, "payload", Value::Doc(inner))?;
     let mut blob = Bytes::from_slice(alloc, &[13])?;
-    blob.extend(encode(alloc, &document)?.slice())?;
+    blob.extend(accepted(encode(alloc, &document))?.slice())?;
     Ok(blob)
 }

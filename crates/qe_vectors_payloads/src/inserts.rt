@@ -1,9 +1,12 @@
 //! Payloads of inserts, as another program writes them.
 
-use crate::line::{Fault, Hex};
-use qe_base::{Bytes, Text};
+use qe_base::Bytes;
 use qe_document::{BsonFault, BsonKind, Document, Value};
-use qe_payload::{EdgeList, EdgeTokens, InsertPayload, Kind, Malformed, read_insert, write_insert};
+use qe_line::{Fault, Hex, accepted};
+use qe_parts::put;
+use qe_payload::{
+    Cipher, EdgeList, EdgeTokens, InsertPayload, Kind, Malformed, read_insert, write_insert,
+};
 use std::alloc::Global;
 
 // An equality payload of an int32.
@@ -56,11 +59,25 @@ const EDGES_66: &str =
     37000a3438000a3439000a3530000a3531000a3532000a3533000a3534000a3535000a3536000a3537000a3538000a35\
     39000a3630000a3631000a3632000a3633000a3634000a3635000000";
 
+// Payloads with a `p` of 47, 49 and 50 bytes at the top, and of 49 and 50 in an edge.
+const CIPHERS: [&str; 5] = [
+    "0b3c0000000570002f00000000dddddddddddddddddddddddddddddddddddddddddddddddddddddddddddddddddddddd\
+    dddddddddddddddddddddddd00",
+    "0b3e0000000570003100000000dddddddddddddddddddddddddddddddddddddddddddddddddddddddddddddddddddddd\
+    dddddddddddddddddddddddddddd00",
+    "0b3f0000000570003200000000dddddddddddddddddddddddddddddddddddddddddddddddddddddddddddddddddddddd\
+    dddddddddddddddddddddddddddddd00",
+    "0b4e000000046700460000000330003e0000000570003100000000dddddddddddddddddddddddddddddddddddddddddd\
+    dddddddddddddddddddddddddddddddddddddddddddddddddddddddd000000",
+    "0b4f000000046700470000000330003f0000000570003200000000dddddddddddddddddddddddddddddddddddddddddd\
+    dddddddddddddddddddddddddddddddddddddddddddddddddddddddddd000000",
+];
+
 const EDGE: EdgeTokens = EdgeTokens {
     d: [0xaa; 32],
     s: [0xbb; 32],
     l: [0xcc; 32],
-    p: [0xdd; 48],
+    p: Cipher::Old([0xdd; 48]),
 };
 
 /// Prints what is read, written and refused.
@@ -98,7 +115,7 @@ fn print_payload(rt: &impl Print, payload: &InsertPayload) -> Result<(), Fault> 
     ] {
         println!(rt; "{name} {}", Hex(token))?;
     }
-    println!(rt; "p {} u {}", Hex(&payload.p), Hex(&payload.u))?;
+    println!(rt; "p {} u {}", Hex(payload.p.bytes()), Hex(&payload.u))?;
     println!(rt;
         "t {} k {} v {}",
         payload.t,
@@ -114,7 +131,7 @@ fn print_payload(rt: &impl Print, payload: &InsertPayload) -> Result<(), Fault> 
 fn print_edges(rt: &impl Print, edges: &EdgeList) -> Result<(), Fault> {
     for edge in edges.slice() {
         println!(rt; "edge d {} s {}", Hex(&edge.d), Hex(&edge.s))?;
-        println!(rt; "edge l {} p {}", Hex(&edge.l), Hex(&edge.p))?;
+        println!(rt; "edge l {} p {}", Hex(&edge.l), Hex(edge.p.bytes()))?;
     }
     Ok(())
 }
@@ -148,7 +165,7 @@ fn equality_of(alloc: Global) -> Result<Bytes, Fault> {
     let payload = InsertPayload {
         d: [0x11; 32],
         s: [0x22; 32],
-        p: [0x33; 48],
+        p: Cipher::Old([0x33; 48]),
         u: [0x44; 16],
         t: 16,
         v: Bytes::from_slice(alloc, &[0x55; 80])?,
@@ -158,17 +175,17 @@ fn equality_of(alloc: Global) -> Result<Bytes, Fault> {
         g: None,
         extra: Document::new(alloc),
     };
-    Ok(write_insert(alloc, &payload)?)
+    accepted(write_insert(alloc, &payload))
 }
 
 fn range_of(alloc: Global) -> Result<Bytes, Fault> {
     let mut extra = Document::new(alloc);
-    extra.push(Text::of(alloc, "sp")?, Value::Int64(2))?;
-    extra.push(Text::of(alloc, "mx")?, Value::Int32(7))?;
+    put(alloc, &mut extra, "sp", Value::Int64(2))?;
+    put(alloc, &mut extra, "mx", Value::Int32(7))?;
     let payload = InsertPayload {
         d: [0x11; 32],
         s: [0x22; 32],
-        p: [0x33; 48],
+        p: Cipher::Old([0x33; 48]),
         u: [0x44; 16],
         t: 16,
         v: Bytes::from_slice(alloc, &[0x55; 80])?,
@@ -178,7 +195,7 @@ fn range_of(alloc: Global) -> Result<Bytes, Fault> {
         g: Some(EdgeList::from_slice(alloc, &[EDGE, EDGE])?),
         extra,
     };
-    Ok(write_insert(alloc, &payload)?)
+    accepted(write_insert(alloc, &payload))
 }
 
 fn print_refusals(rt: &(impl Print + AllocGlobal)) -> Result<(), Fault> {
@@ -196,6 +213,9 @@ fn print_refusals(rt: &(impl Print + AllocGlobal)) -> Result<(), Fault> {
         "0b1800000004670010000000033000080000000a6400000000",
         "0b150000000467000d00000003300005000000000000",
     ] {
+        print_read(rt, digits)?;
+    }
+    for digits in CIPHERS {
         print_read(rt, digits)?;
     }
     Ok(())
