@@ -13,12 +13,12 @@ use Rattle.qe_value.specs.declared.value.Plain.{Plain, map-Plain}
 use Rattle.qe_value.specs.declared.value.Plain.TheOpen.{Plain-F}
 use Rattle.qe_value.specs.declared.value.Plain.TheFolds.{ind-Plain, fold-roll-Plain}
 use Rattle.qe_bson.specs.declared.extended_json.fault.JsonFault.{JsonFault}
-use Rattle.qe_document.specs.Views.{plain}
+use Rattle.qe_document.specs.Views.{plain, opened}
 use Rattle.qe_value.specs.declared.value.Value.{Value}
 use Rattle.qe_base.specs.Answers.{Answers}
 use Rattle.qe_bson.specs.JsonFaults.{json_refusal}
 use Rattle.qe_bson.specs.JsonReading.{then}
-use Rattle.qe_bson.specs.JsonWriting.{long, date, object_id, binary, all_of, array_data, object_data, members_from, json_of, json_field, json_step, opened}
+use Rattle.qe_bson.specs.JsonWriting.{long, date, object_id, binary, all_of, array_data, object_data, members_from, json_of, json_field, json_step}
 use Rattle.qe_bson.proofs.JsonPrintLemmas.{json_of-plain}
 use Rattle.qe_bson.proofs.JsonReadLemmas.{gave}
 
@@ -90,6 +90,6 @@ json_of-no_float = ind-Plain HasNoFloat (λ x y is. λ d e.
     step y d (ap (λ z. json_step (map-Plain Plain (Result Data JsonFault) json_of z)) is ∙ sym (fold-roll-Plain (Result Data JsonFault) json_step x) ∙ e))
 
 -- what a call printed has no float
-pub no_float : (r : Result Json JsonFault) (v : Value) → Answers view json_refusal r (json_step (opened v)) → IfOk r (λ json. has_float (view json) ≡ false)
+pub no_float : (r : Result Json JsonFault) (v : Value) → Answers view json_refusal r (json_step (opened json_of v)) → IfOk r (λ json. has_float (view json) ≡ false)
 no_float (Ok json) v given = json_of-no_float (plain v) (view json) (json_of-plain v ∙ given)
 no_float (Err fault) v given = tt

@@ -5,7 +5,7 @@ use Rattle.std.proofs.lemmas.List.{take_more}
 use Rattle.std.specs.Prelude.{◌&&◌, nat_lt, slice_get, IfOk, OnOk}
 use Rattle.serde_json.specs.View.{view}
 use Rattle.serde_json.specs.declared.value.Value.{Value as Json}
-use Rattle.qe_document.specs.Views.{plain}
+use Rattle.qe_document.specs.Views.{plain, opened}
 use Rattle.qe_value.specs.declared.value.Plain.{Plain, the_lemmas}
 use Rattle.qe_value.specs.declared.value.Plain.TheVariants as p
 use Rattle.qe_value.specs.declared.value.Value.{Value}
@@ -16,7 +16,7 @@ use Rattle.qe_bson.specs.JsonFaults.{json_refusal}
 use Rattle.qe_bson.specs.JsonReading.{value_at}
 use Rattle.qe_base.specs.Bytes.{are_bytes}
 use Rattle.qe_bson.specs.JsonRound.{typed, typed_step, parts_typed, fields_typed, items_typed, ordered, levels}
-use Rattle.qe_bson.specs.JsonWriting.{json_step, opened}
+use Rattle.qe_bson.specs.JsonWriting.{json_of, json_step}
 use Rattle.qe_bson.proofs.JsonFormLemmas.{both}
 use Rattle.qe_bson.proofs.JsonPrintLemmas.{json_of-plain}
 use Rattle.qe_bson.proofs.JsonValueLemmas.{reads_back}
@@ -64,6 +64,6 @@ fields_typed-more (f ∷ fs) (suc i) x is known new =
     let parts = both (typed f.1) (fields_typed (take i fs)) known in and_true (typed f.1) _ parts.0 (fields_typed-more fs i x is parts.1 new)
 
 -- what a call printed is read as the value
-pub again : (r : Result Json JsonFault) (x : Value) → Answers view json_refusal r (json_step (opened x)) → OnOk r (typed_step (parts_typed x) ≡ true) → IfOk r (λ json. ordered (plain x) ≡ true → levels (plain x) ≤ 100 → value_at 100 (view json) ≡ Ok (plain x))
+pub again : (r : Result Json JsonFault) (x : Value) → Answers view json_refusal r (json_step (opened json_of x)) → OnOk r (typed_step (parts_typed x) ≡ true) → IfOk r (λ json. ordered (plain x) ≡ true → levels (plain x) ≤ 100 → value_at 100 (view json) ≡ Ok (plain x))
 again (Ok json) x given typing = λ order deep. reads_back (plain x) 100 (view json) (json_of-plain x ∙ given) (typed-plain x ∙ typing) order deep
 again (Err fault) x given typing = tt

@@ -9,8 +9,6 @@ use Rattle.serde_json.specs.Find.{of_integer}
 use Rattle.serde_json.specs.View.{items_of}
 use Rattle.qe_value.specs.declared.value.Plain.{Plain, fold-Plain}
 use Rattle.qe_value.specs.declared.value.Plain.TheOpen.{Plain-F}
-use Rattle.qe_value.specs.declared.value.Value.{Value}
-use Rattle.qe_value.specs.declared.value.Value.TheVariants as v
 use Rattle.qe_value.specs.Measures.{any_true}
 use Rattle.qe_bson.specs.declared.extended_json.fault.JsonFault.{JsonFault}
 use Rattle.qe_bson.specs.declared.extended_json.fault.JsonFault.TheVariants.{Unprintable}
@@ -92,19 +90,3 @@ formless_step _ = false
 
 unfoldable pub formless : Plain → Bool
 formless = fold-Plain Bool formless_step
-
--- for private clauses: a value of the code, with the JSON of what it holds
-abbrev pub opened : Value → Plain-F (Result Data JsonFault)
-opened (v.Double bytes) = Plain-F.Double bytes
-opened (v.Str text) = Plain-F.Str text
-opened (v.Doc fs) = Plain-F.Doc (map json_field fs)
-opened (v.Array vs) = Plain-F.Array (map json_of vs)
-opened (v.Binary subtype bytes) = Plain-F.Binary subtype bytes
-opened (v.ObjectId id) = Plain-F.ObjectId id
-opened (v.Bool b) = Plain-F.Bool b
-opened (v.Date millis) = Plain-F.Date millis
-opened v.Null = Plain-F.Null
-opened (v.Int32 z) = Plain-F.Int32 z
-opened (v.Timestamp n) = Plain-F.Timestamp n
-opened (v.Int64 z) = Plain-F.Int64 z
-opened (v.Decimal bytes) = Plain-F.Decimal bytes

@@ -4,7 +4,7 @@ use Rattle.std.specs.Prelude.{IfOk}
 use Rattle.qe_value.specs.declared.fault.BsonFault.{BsonFault}
 use Rattle.qe_value.specs.declared.value.Plain.{Plain}
 use Rattle.qe_value.specs.declared.value.Value.{Value}
-use Rattle.qe_value.specs.Spelling.{spelled, IsDocument, Begins, IsAlone}
+use Rattle.qe_value.specs.Spelling.{IsDocument, Begins, IsAlone}
 use Rattle.qe_value.specs.Views.{plain}
 use Rattle.qe_value.proofs.AloneLemmas.{alone_length, alone_fits}
 use Rattle.qe_encode.specs.Writing.{encoded, value_encoded}

@@ -12,9 +12,11 @@ mod element;
 mod names;
 mod reading;
 
-pub use qe_encode::{encode, lengths_are_sums, value_bytes, value_kind, what_fits_is_written};
+pub use qe_encode::{
+    encode, encode_behind, lengths_are_sums, value_bytes, value_kind, what_fits_is_written,
+};
 pub use qe_value::{
-    BsonFault, BsonKind, Document, ElementType, EncodeFault, MOST_BYTES, MOST_LEVELS, Plain,
-    PushFault, Value, Values, what_begins_bytes_is_read, what_spells_a_value_is_read,
+    BsonFault, BsonKind, Carried, Document, ElementType, EncodeFault, MOST_BYTES, MOST_LEVELS,
+    Plain, PushFault, Value, Values, what_begins_bytes_is_read, what_spells_a_value_is_read,
 };
 pub use reading::{decode, value_from};

@@ -34,11 +34,11 @@ module _ (fs : List (List ℕ × Plain)) (bytes : List ℕ) where
       rw (short, flat, zero) refl
 
   -- a part that couldn't be written is too long for the whole
-  pub part_refuses : (fault : EncodeFault) (part old new : List ℕ) → length old + length part ≤ length (document_bytes fs) → Writes old new (Err fault) part → Refuses (encode_refusal fault) (written_as fs bytes)
-  part_refuses TooLong part old new le more = too_long (omega arith)
-  part_refuses TooDeep part old new le never = absurd never
-  part_refuses ZeroInName part old new le never = absurd never
-  part_refuses NoMemory part old new le any = tt
+  pub part_refuses : (limit : ℕ) (fault : EncodeFault) (part old new : List ℕ) → 16777216 + length old + length part ≤ limit + length (document_bytes fs) → Writes limit old new (Err fault) part → Refuses (encode_refusal fault) (written_as fs bytes)
+  part_refuses limit TooLong part old new le more = too_long (omega arith)
+  part_refuses limit TooDeep part old new le never = absurd never
+  part_refuses limit ZeroInName part old new le never = absurd never
+  part_refuses limit NoMemory part old new le any = tt
 
   -- an answer that is due has these bytes
   pub bytes_written : (r : Result (List ℕ) EncodeFault) → Answers (λ out. out) encode_refusal r (written_as fs bytes) → IfOk r (λ out. out ≡ bytes)

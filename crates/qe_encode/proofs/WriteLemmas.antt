@@ -51,31 +51,31 @@ items_go_on old mid new vs k x lt is whole written =
     rw written (append_assoc mid (element (decimal k) (spell x)) (bytes_of_items (k + 1) (drop (k + 1) vs)) ∙ ap (λ (b : List ℕ). mid ++ b) (sym (items_next k vs x lt is)) ∙ whole)
 
 -- a refusal of a part is one of the whole
-refuses : (fault : EncodeFault) (old mid new end part bytes : List ℕ) → length mid + length part ≤ length old + length bytes → Writes mid new (Err fault) part → Writes old end (Err fault) bytes
-refuses TooLong old mid new end part bytes le refused = omega arith
-refuses TooDeep old mid new end part bytes le refused = refused
-refuses ZeroInName old mid new end part bytes le refused = refused
-refuses NoMemory old mid new end part bytes le refused = tt
+refuses : (limit : ℕ) (fault : EncodeFault) (old mid new end part bytes : List ℕ) → length mid + length part ≤ length old + length bytes → Writes limit mid new (Err fault) part → Writes limit old end (Err fault) bytes
+refuses limit TooLong old mid new end part bytes le refused = omega arith
+refuses limit TooDeep old mid new end part bytes le refused = refused
+refuses limit ZeroInName old mid new end part bytes le refused = refused
+refuses limit NoMemory old mid new end part bytes le refused = tt
 
 framed_length : (elements : List ℕ) → length (framed elements) ≡ length elements + 5
 framed_length elements = omega (arith, length-append elements (0 ∷ []))
 
-pub field_refuses : (fault : EncodeFault) (first old mid new end : List ℕ) (fs : List (List ℕ × Value)) (i : ℕ) (f : List ℕ × Value) → i < length fs → f ≡ get_or fs i f → length old ≡ length first + 4 → mid ++ bytes_of_fields (drop i fs) ≡ old ++ bytes_of_fields fs
-    → Writes mid new (Err fault) (element f.0 (spell f.1)) → Writes first end (Err fault) (framed (bytes_of_fields fs))
-field_refuses fault first old mid new end fs i f lt is began whole refused =
+pub field_refuses : (limit : ℕ) (fault : EncodeFault) (first old mid new end : List ℕ) (fs : List (List ℕ × Value)) (i : ℕ) (f : List ℕ × Value) → i < length fs → f ≡ get_or fs i f → length old ≡ length first + 4 → mid ++ bytes_of_fields (drop i fs) ≡ old ++ bytes_of_fields fs
+    → Writes limit mid new (Err fault) (element f.0 (spell f.1)) → Writes limit first end (Err fault) (framed (bytes_of_fields fs))
+field_refuses limit fault first old mid new end fs i f lt is began whole refused =
     let part = element f.0 (spell f.1) in
     let later = bytes_of_fields (drop (i + 1) fs) in
     let sizes : length (mid ++ (part ++ later)) ≡ length (old ++ bytes_of_fields fs) = ap (λ (b : List ℕ). length (mid ++ b)) (sym (fields_next fs i f lt is)) ∙ ap (λ (b : List ℕ). length b) whole in
-    refuses fault first mid new end part (framed (bytes_of_fields fs))
+    refuses limit fault first mid new end part (framed (bytes_of_fields fs))
     (omega (arith, sizes, length-append mid (part ++ later), length-append part later, length-append old (bytes_of_fields fs), framed_length (bytes_of_fields fs))) refused
 
-pub item_refuses : (fault : EncodeFault) (first old mid new end : List ℕ) (vs : List Value) (k : ℕ) (x : Value) → k < length vs → x ≡ get_or vs k x → length old ≡ length first + 4 → mid ++ bytes_of_items k (drop k vs) ≡ old ++ bytes_of_items 0 vs
-    → Writes mid new (Err fault) (element (decimal k) (spell x)) → Writes first end (Err fault) (framed (bytes_of_items 0 vs))
-item_refuses fault first old mid new end vs k x lt is began whole refused =
+pub item_refuses : (limit : ℕ) (fault : EncodeFault) (first old mid new end : List ℕ) (vs : List Value) (k : ℕ) (x : Value) → k < length vs → x ≡ get_or vs k x → length old ≡ length first + 4 → mid ++ bytes_of_items k (drop k vs) ≡ old ++ bytes_of_items 0 vs
+    → Writes limit mid new (Err fault) (element (decimal k) (spell x)) → Writes limit first end (Err fault) (framed (bytes_of_items 0 vs))
+item_refuses limit fault first old mid new end vs k x lt is began whole refused =
     let part = element (decimal k) (spell x) in
     let later = bytes_of_items (k + 1) (drop (k + 1) vs) in
     let sizes : length (mid ++ (part ++ later)) ≡ length (old ++ bytes_of_items 0 vs) = ap (λ (b : List ℕ). length (mid ++ b)) (sym (items_next k vs x lt is)) ∙ ap (λ (b : List ℕ). length b) whole in
-    refuses fault first mid new end part (framed (bytes_of_items 0 vs))
+    refuses limit fault first mid new end part (framed (bytes_of_items 0 vs))
     (omega (arith, sizes, length-append mid (part ++ later), length-append part later, length-append old (bytes_of_items 0 vs), framed_length (bytes_of_items 0 vs))) refused
 
 -- four bytes for the length, and all items behind them

@@ -1,42 +1,26 @@
 -- What writing answers.
-use Rattle.std.specs.Prelude.{◌≡◌, ℕ, ◌+◌, ◌<◌, ◌≤◌, nat_lt, List, [], ◌∷◌, ◌++◌, length, map, if◌then◌else◌, Some, Result, Ok, Err}
+use Rattle.std.specs.Prelude.{◌≡◌, ℕ, ◌+◌, ◌<◌, ◌≤◌, nat_lt, List, [], ◌∷◌, ◌++◌, length, if◌then◌else◌, Some, Result, Ok, Err}
 use Rattle.qe_value.specs.declared.fault.EncodeFault.{EncodeFault}
 use Rattle.qe_value.specs.declared.fault.EncodeFault.TheVariants.{TooLong, TooDeep, ZeroInName, NoMemory}
 use Rattle.qe_value.specs.declared.value.Plain.{Plain}
-use Rattle.qe_value.specs.declared.value.Plain.TheOpen.{Plain-F}
 use Rattle.qe_value.specs.declared.value.Value.{Value}
-use Rattle.qe_value.specs.declared.value.Value.TheVariants as v
 use Rattle.qe_value.specs.Limits.{most_bytes, most_levels}
 use Rattle.qe_value.specs.Measures.{fields_depth, zero_in_fields}
 use Rattle.qe_value.specs.Names.{value_named}
-use Rattle.qe_value.specs.Spelling.{Spelled, spelled, spelled_field, spelled_step, document_bytes, IsDocument}
+use Rattle.qe_value.specs.Spelling.{Spelled, spelled, spelled_step, document_bytes, IsDocument}
+use Rattle.qe_value.specs.Views.{opened}
 
--- a value of the code, with what it holds spelled already
-abbrev pub opened : Value → Plain-F Spelled
-opened (v.Double b) = Plain-F.Double b
-opened (v.Str t) = Plain-F.Str t
-opened (v.Doc fs) = Plain-F.Doc (map spelled_field fs)
-opened (v.Array vs) = Plain-F.Array (map spelled vs)
-opened (v.Binary s b) = Plain-F.Binary s b
-opened (v.ObjectId b) = Plain-F.ObjectId b
-opened (v.Bool b) = Plain-F.Bool b
-opened (v.Date z) = Plain-F.Date z
-opened v.Null = Plain-F.Null
-opened (v.Int32 z) = Plain-F.Int32 z
-opened (v.Timestamp n) = Plain-F.Timestamp n
-opened (v.Int64 z) = Plain-F.Int64 z
-opened (v.Decimal b) = Plain-F.Decimal b
-
+-- what stands for a value of the code
 abbrev pub spell : Value → Spelled
-spell value = spelled_step (opened value)
+spell value = spelled_step (opened spelled value)
 
--- the bytes were added, or all would be more than a document may have
-abbrev pub Writes : List ℕ → List ℕ → Result (Unit {0}) EncodeFault → List ℕ → Type 0
-Writes old new (Ok _) bytes = (new ≡ old ++ bytes) × (length new ≤ most_bytes)
-Writes old new (Err TooLong) bytes = most_bytes < length old + length bytes
-Writes old new (Err TooDeep) bytes = ⊥
-Writes old new (Err ZeroInName) bytes = ⊥
-Writes old new (Err NoMemory) bytes = Unit {0}
+-- the bytes were added, or all would be more than the limit
+abbrev pub Writes : ℕ → List ℕ → List ℕ → Result (Unit {0}) EncodeFault → List ℕ → Type 0
+Writes limit old new (Ok _) bytes = (new ≡ old ++ bytes) × (length new ≤ limit)
+Writes limit old new (Err TooLong) bytes = limit < length old + length bytes
+Writes limit old new (Err TooDeep) bytes = ⊥
+Writes limit old new (Err ZeroInName) bytes = ⊥
+Writes limit old new (Err NoMemory) bytes = Unit {0}
 
 -- the first refusal of a document, or the bytes that are due
 abbrev pub written_as : List (List ℕ × Plain) → List ℕ → Result (List ℕ) EncodeFault

@@ -1,14 +1,13 @@
-//! Writing documents: all bytes go to the end of one vector, and each length is filled in once it is known.
+//! Writing documents: all bytes go to the end of one vector, up to a limit, and each length is filled in once it is known.
 
 ghost use Rattle.std.specs.Prelude.{◌≡◌, ℕ, ◌+◌, ◌≤◌, ◌∷◌, [], ◌++◌, List, Ok, length, map, IfOk};
 ghost use Rattle.qe_base.specs.Answers.{Answers};
 ghost use Rattle.qe_value.specs.Faults.{encode_refusal};
-ghost use Rattle.qe_value.specs.Limits.{most_bytes};
 ghost use Rattle.qe_value.specs.Reading.{document_at, alone_at};
 ghost use Rattle.qe_value.specs.Views.{plain};
-ghost use Rattle.qe_value.specs.Spelling.{Spelled, element, fields_bytes, items_bytes, framed, string, binary as binary_bytes, spelled, spelled_field, document_bytes, IsDocument};
+ghost use Rattle.qe_value.specs.Spelling.{element, fields_bytes, items_bytes, framed, string, binary as binary_bytes, spelled, spelled_field, document_bytes, IsDocument};
 ghost use Rattle.qe_value.specs.Types.{type_byte};
-ghost use Rattle.qe_encode.specs.Writing.{Writes, spell, encoded, value_encoded};
+ghost use Rattle.qe_encode.specs.Writing.{Writes, spell, written_as, encoded, value_encoded};
 
 use itoa::Buffer;
 use qe_base::Bytes;
@@ -21,11 +20,12 @@ use std::alloc::Global;
 // The bytes of a document with one field of the empty name, without the value's.
 const FRAME: usize = 7;
 
-// Adds bytes.
-fn put(out: &mut Vec<u8>, bytes: &[u8]) -> Result<(), EncodeFault>
-    ensures { Writes out.old.items out.new.items result bytes.now }
+// Adds bytes. The limit is that of the whole vector, what stands before a document with it.
+fn put(out: &mut Vec<u8>, limit: u32, bytes: &[u8]) -> Result<(), EncodeFault>
+    ensures { Writes limit out.old.items out.new.items result bytes.now }
 {
-    if out.len() > MOST_BYTES || bytes.len() > MOST_BYTES - out.len() {
+    let limit = limit as usize;
+    if out.len() > limit || bytes.len() > limit - out.len() {
         return Err(EncodeFault::TooLong);
     }
     out.extend_from_slice(bytes)?;
@@ -33,13 +33,11 @@ fn put(out: &mut Vec<u8>, bytes: &[u8]) -> Result<(), EncodeFault>
 }
 
 // Adds an element's type byte and name.
-fn put_head(out: &mut Vec<u8>, kind: u8, name: &str) -> Result<(), EncodeFault>
-    ensures { Writes out.old.items out.new.items result (kind ∷ (name.now ++ (0 ∷ []))) }
+fn put_head(out: &mut Vec<u8>, limit: u32, kind: u8, name: &str) -> Result<(), EncodeFault>
+    ensures { Writes limit out.old.items out.new.items result (kind ∷ (name.now ++ (0 ∷ []))) }
 {
-    if out.len() > MOST_BYTES
-        || name.len() > MOST_BYTES
-        || out.len() + name.len() + 2 > MOST_BYTES
-    {
+    let limit = limit as usize;
+    if out.len() > limit || name.len() > limit || out.len() + name.len() + 2 > limit {
         return Err(EncodeFault::TooLong);
     }
     out.push(kind)?;
@@ -49,13 +47,11 @@ fn put_head(out: &mut Vec<u8>, kind: u8, name: &str) -> Result<(), EncodeFault>
 }
 
 // Adds a string.
-fn put_string(out: &mut Vec<u8>, text: &str) -> Result<(), EncodeFault>
-    ensures { Writes out.old.items out.new.items result (string text.now) }
+fn put_string(out: &mut Vec<u8>, limit: u32, text: &str) -> Result<(), EncodeFault>
+    ensures { Writes limit out.old.items out.new.items result (string text.now) }
 {
-    if out.len() > MOST_BYTES
-        || text.len() > MOST_BYTES
-        || out.len() + text.len() + 5 > MOST_BYTES
-    {
+    let limit = limit as usize;
+    if out.len() > limit || text.len() > limit || out.len() + text.len() + 5 > limit {
         return Err(EncodeFault::TooLong);
     }
     out.extend_from_slice(&(text.len() as u32 + 1).to_le_bytes())?;
@@ -65,13 +61,11 @@ fn put_string(out: &mut Vec<u8>, text: &str) -> Result<(), EncodeFault>
 }
 
 // Adds a binary.
-fn put_binary(out: &mut Vec<u8>, subtype: u8, bytes: &[u8]) -> Result<(), EncodeFault>
-    ensures { Writes out.old.items out.new.items result (binary_bytes subtype bytes.now) }
+fn put_binary(out: &mut Vec<u8>, limit: u32, subtype: u8, bytes: &[u8]) -> Result<(), EncodeFault>
+    ensures { Writes limit out.old.items out.new.items result (binary_bytes subtype bytes.now) }
 {
-    if out.len() > MOST_BYTES
-        || bytes.len() > MOST_BYTES
-        || out.len() + bytes.len() + 5 > MOST_BYTES
-    {
+    let limit = limit as usize;
+    if out.len() > limit || bytes.len() > limit || out.len() + bytes.len() + 5 > limit {
         return Err(EncodeFault::TooLong);
     }
     out.extend_from_slice(&(bytes.len() as u32).to_le_bytes())?;
@@ -81,12 +75,12 @@ fn put_binary(out: &mut Vec<u8>, subtype: u8, bytes: &[u8]) -> Result<(), Encode
 }
 
 // Ends the document whose length stands at `start`.
-fn close(out: &mut Vec<u8>, start: usize) -> Result<(), EncodeFault>
+fn close(out: &mut Vec<u8>, limit: u32, start: usize) -> Result<(), EncodeFault>
     requires place { start + 4 ≤ length out.old.items }
-    requires small { length out.old.items ≤ most_bytes }
-    ensures { (front elements : List ℕ) → length front ≡ start → out.old.items ≡ front ++ ((0 ∷ 0 ∷ 0 ∷ 0 ∷ []) ++ elements) → Writes front out.new.items result (framed elements) }
+    requires small { length out.old.items ≤ limit }
+    ensures { (front elements : List ℕ) → length front ≡ start → out.old.items ≡ front ++ ((0 ∷ 0 ∷ 0 ∷ 0 ∷ []) ++ elements) → Writes limit front out.new.items result (framed elements) }
 {
-    if out.len() == MOST_BYTES {
+    if out.len() == limit as usize {
         return Err(EncodeFault::TooLong);
     }
     out.push(0)?;
@@ -118,65 +112,69 @@ fn kind_of(value: &Value) -> ElementType
 
 // Adds the bytes behind an element's name.
 #[cycle(write)]
-fn put_value(out: &mut Vec<u8>, value: &Value) -> Result<(), EncodeFault>
-    ensures { Writes out.old.items out.new.items result (spell value.now).bytes }
+fn put_value(out: &mut Vec<u8>, limit: u32, value: &Value) -> Result<(), EncodeFault>
+    ensures { Writes limit out.old.items out.new.items result (spell value.now).bytes }
 {
     match value {
-        Value::Double(bytes) => put(out, bytes),
-        Value::Str(text) => put_string(out, text.as_str()),
-        Value::Doc(document) => put_document(out, document),
-        Value::Array(items) => put_array(out, items),
-        Value::Binary { subtype, bytes } => put_binary(out, *subtype, bytes.slice()),
-        Value::ObjectId(bytes) => put(out, bytes),
-        Value::Bool(b) => put(out, &[*b as u8]),
-        Value::Date(n) => put(out, &n.to_le_bytes()),
-        Value::Null => put(out, &[]),
-        Value::Int32(n) => put(out, &n.to_le_bytes()),
-        Value::Timestamp(n) => put(out, &n.to_le_bytes()),
-        Value::Int64(n) => put(out, &n.to_le_bytes()),
-        Value::Decimal(bytes) => put(out, bytes),
+        Value::Double(bytes) => put(out, limit, bytes),
+        Value::Str(text) => put_string(out, limit, text.as_str()),
+        Value::Doc(document) => put_document(out, limit, document),
+        Value::Array(items) => put_array(out, limit, items),
+        Value::Binary { subtype, bytes } => put_binary(out, limit, *subtype, bytes.slice()),
+        Value::ObjectId(bytes) => put(out, limit, bytes),
+        Value::Bool(b) => put(out, limit, &[*b as u8]),
+        Value::Date(n) => put(out, limit, &n.to_le_bytes()),
+        Value::Null => put(out, limit, &[]),
+        Value::Int32(n) => put(out, limit, &n.to_le_bytes()),
+        Value::Timestamp(n) => put(out, limit, &n.to_le_bytes()),
+        Value::Int64(n) => put(out, limit, &n.to_le_bytes()),
+        Value::Decimal(bytes) => put(out, limit, bytes),
     }
 }
 
 #[cycle(write)]
-fn put_element(out: &mut Vec<u8>, name: &str, value: &Value) -> Result<(), EncodeFault>
-    ensures { Writes out.old.items out.new.items result (element name.now (spell value.now)) }
+fn put_element(out: &mut Vec<u8>, limit: u32, name: &str, value: &Value) -> Result<(), EncodeFault>
+    ensures { Writes limit out.old.items out.new.items result (element name.now (spell value.now)) }
 {
-    put_head(out, kind_of(value).byte(), name)?;
-    put_value(out, value)
+    put_head(out, limit, kind_of(value).byte(), name)?;
+    put_value(out, limit, value)
 }
 
 #[cycle(write)]
-fn put_document(out: &mut Vec<u8>, document: &Document) -> Result<(), EncodeFault>
-    ensures { Writes out.old.items out.new.items result (framed (fields_bytes (map spelled_field document.now))) }
+fn put_document(out: &mut Vec<u8>, limit: u32, document: &Document) -> Result<(), EncodeFault>
+    ensures { Writes limit out.old.items out.new.items result (framed (fields_bytes (map spelled_field document.now))) }
 {
     let start = out.len();
-    put(out, &[0; 4])?;
+    put(out, limit, &[0; 4])?;
     for (name, value) in document.slice() {
-        put_element(out, name.as_str(), value)?;
+        put_element(out, limit, name.as_str(), value)?;
     }
-    close(out, start)
+    close(out, limit, start)
 }
 
 #[cycle(write)]
-fn put_array(out: &mut Vec<u8>, values: &Values) -> Result<(), EncodeFault>
-    ensures { Writes out.old.items out.new.items result (framed (items_bytes 0 (map spelled values.now))) }
+fn put_array(out: &mut Vec<u8>, limit: u32, values: &Values) -> Result<(), EncodeFault>
+    ensures { Writes limit out.old.items out.new.items result (framed (items_bytes 0 (map spelled values.now))) }
 {
     let start = out.len();
-    put(out, &[0; 4])?;
+    put(out, limit, &[0; 4])?;
     let mut buffer = Buffer::new();
     for (i, item) in values.slice().iter().enumerate() {
-        put_element(out, buffer.format(i), item)?;
+        put_element(out, limit, buffer.format(i), item)?;
     }
-    close(out, start)
+    close(out, limit, start)
 }
 
-fn document_out(alloc: Global, document: &Document) -> Result<Bytes, EncodeFault>
-    ensures exact { Answers (λ out. out) encode_refusal result (encoded document.now) }
+// What stands in front, and the document's bytes behind it.
+fn document_out(alloc: Global, front: &[u8], document: &Document) -> Result<Bytes, EncodeFault>
+    requires { length front.now ≤ 1 }
+    ensures exact { Answers (λ out. out) encode_refusal result (written_as document.now (front.now ++ document_bytes document.now)) }
     ensures fits { IfOk result (λ _. IsDocument document.now) }
 {
     let mut out = Vec::new(alloc);
-    put_document(&mut out, document)?;
+    out.extend_from_slice(front)?;
+    let limit = (MOST_BYTES + front.len()) as u32;
+    put_document(&mut out, limit, document)?;
     if !is_within(document, MOST_LEVELS) {
         return Err(EncodeFault::TooDeep);
     }
@@ -194,7 +192,16 @@ pub fn encode(alloc: Global, document: &Document) -> Result<Bytes, EncodeFault>
     // The bytes are read as the document again.
     ensures again { IfOk result (λ out. document_at out ≡ Ok (document.now, length out)) }
 {
-    document_out(alloc, document)
+    document_out(alloc, &[], document)
+}
+
+/// A byte, and the bytes of a document behind it. It is refused as the document is.
+pub fn encode_behind(alloc: Global, first: u8, document: &Document) -> Result<Bytes, EncodeFault>
+    // The byte and the document's bytes, or the document's first refusal.
+    ensures exact { Answers (λ out. out) encode_refusal result (written_as document.now (first ∷ document_bytes document.now)) }
+    ensures fits { IfOk result (λ _. IsDocument document.now) }
+{
+    document_out(alloc, &[first], document)
 }
 
 fn value_out(alloc: Global, value: &Value) -> Result<Bytes, EncodeFault>
@@ -202,7 +209,7 @@ fn value_out(alloc: Global, value: &Value) -> Result<Bytes, EncodeFault>
     ensures fits { IfOk result (λ _. IsDocument (([], plain value.now) ∷ [])) }
 {
     let mut out = Vec::new(alloc);
-    put_value(&mut out, value)?;
+    put_value(&mut out, MOST_BYTES as u32, value)?;
     if out.len() + FRAME > MOST_BYTES {
         return Err(EncodeFault::TooLong);
     }

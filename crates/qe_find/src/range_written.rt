@@ -1,6 +1,6 @@
 //! Find payloads of ranges that are written.
 
-ghost use Rattle.std.specs.Prelude.{◌≡◌, ◌≤◌, ◌≤ℤ◌, ◌++◌, pos, length, Ok, IfOk};
+ghost use Rattle.std.specs.Prelude.{◌≡◌, ◌≤◌, ◌≤ℤ◌, pos, length, Ok, IfOk};
 ghost use Rattle.std.specs.List.{AllByRecursion};
 ghost use Rattle.qe_base.specs.Answers.{Answers};
 ghost use Rattle.qe_document.specs.Faults.{encode_refusal};

@@ -1,6 +1,5 @@
 //! Documents and arrays that stand under a name.
 
-ghost use Rattle.std.specs.Prelude.{◌≡◌, decimal, length, map};
 ghost use Rattle.qe_document.specs.Views.{plain, fields_of, items_of};
 ghost use Rattle.qe_layout.specs.Documents.{of_type, count_reads, each_read, items_reads, bounded_reads};
 ghost use Rattle.qe_layout.specs.Layouts.{Reader};

@@ -1,6 +1,6 @@
 //! What payloads carry unread: the elements `sp`, `pn`, `tf`, `mn` and `mx`, in this order.
 
-ghost use Rattle.std.specs.Prelude.{◌≡◌, ◌++◌, codes, false, IfOk, OnOk};
+ghost use Rattle.std.specs.Prelude.{◌≡◌, ◌++◌, false, IfOk, OnOk};
 ghost use Rattle.qe_document.specs.Names.{is_named, value_named};
 ghost use Rattle.qe_parts.specs.Carried.{extra_names, carried_one, extra_in, picked_one, picked, AreNew};
 

@@ -11,7 +11,7 @@ ghost use Rattle.qe_value.specs.declared.value.Plain.TheVariants as p;
 ghost use Rattle.qe_layout.specs.Blobs.{IsBlob};
 
 use qe_base::{Bytes, NoMemory, Text};
-use qe_document::{Document, EncodeFault, PushFault, Value, encode};
+use qe_document::{Document, EncodeFault, PushFault, Value, encode_behind};
 use std::alloc::Global;
 
 /// Adds an element of a new name at the end.
@@ -48,9 +48,5 @@ pub fn blob_of(alloc: Global, kind: u8, document: &Document) -> Result<Bytes, En
     ensures is { IfOk result (λ blob. IsBlob kind document.now blob) }
     ensures fits { IfOk result (λ _. IsDocument document.now) }
 {
-    let encoded = encode(alloc, document)?;
-    let mut blob = Vec::new(alloc);
-    blob.extend_from_slice(&[kind])?;
-    blob.extend_from_slice(encoded.slice())?;
-    Ok(Bytes::from_vec(alloc, blob))
+    encode_behind(alloc, kind, document)
 }

@@ -23,6 +23,22 @@ plain (v.Timestamp n) = p.Timestamp n
 plain (v.Int64 z) = p.Int64 z
 plain (v.Decimal b) = p.Decimal b
 
+-- one level of a value, with what is held by it seen in some way
+abbrev pub opened : {X : Type 0} → (Plain → X) → Value → Plain-F X
+opened seen (v.Double b) = Plain-F.Double b
+opened seen (v.Str t) = Plain-F.Str t
+opened seen (v.Doc fs) = Plain-F.Doc (map (λ f. (f.0, seen f.1)) fs)
+opened seen (v.Array vs) = Plain-F.Array (map seen vs)
+opened seen (v.Binary s b) = Plain-F.Binary s b
+opened seen (v.ObjectId b) = Plain-F.ObjectId b
+opened seen (v.Bool b) = Plain-F.Bool b
+opened seen (v.Date z) = Plain-F.Date z
+opened seen v.Null = Plain-F.Null
+opened seen (v.Int32 z) = Plain-F.Int32 z
+opened seen (v.Timestamp n) = Plain-F.Timestamp n
+opened seen (v.Int64 z) = Plain-F.Int64 z
+opened seen (v.Decimal b) = Plain-F.Decimal b
+
 -- a field with its value as a tree
 abbrev pub field_view : List ℕ × Value → List ℕ × Plain
 field_view f = (f.0, plain f.1)

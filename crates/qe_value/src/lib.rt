@@ -6,10 +6,11 @@
 //!
 //! `specs/Spelling` relates documents and bytes, `specs/Reading` gives what bytes are read as, or the first fault, and
 //! the laws say that they agree. qe_encode writes; qe_document reads, and hands on both. A document has at most
-//! 16,777,216 bytes and 100 levels. Read: value, fault, element_type, limits, bounds, equal, laws.
+//! 16,777,216 bytes and 100 levels. Read: value, carried, fault, element_type, limits, bounds, equal, laws.
 #![tactic(auto)]
 
 mod bounds;
+mod carried;
 mod element_type;
 mod equal;
 mod fault;
@@ -18,6 +19,7 @@ mod limits;
 mod value;
 
 pub use bounds::{has_zero, is_within, value_has_zero, value_within};
+pub use carried::Carried;
 pub use element_type::ElementType;
 pub use fault::{BsonFault, BsonKind, EncodeFault, PushFault};
 pub use laws::{what_begins_bytes_is_read, what_spells_a_value_is_read};

@@ -1,6 +1,5 @@
 //! Values from JSON.
 
-ghost use Rattle.std.specs.Prelude.{◌≡◌};
 ghost use Rattle.serde_json.specs.View.{view, items_view, members_view};
 ghost use Rattle.qe_document.specs.Views.{plain};
 ghost use Rattle.qe_base.specs.Answers.{Answers};

@@ -9,7 +9,7 @@ ghost use Rattle.serde_json.specs.Find.{of_integer};
 ghost use Rattle.serde_json.specs.View.{view};
 ghost use Rattle.serde_json.specs.Written.{has_float};
 ghost use Rattle.qe_document.specs.Limits.{most_levels};
-ghost use Rattle.qe_document.specs.Views.{plain};
+ghost use Rattle.qe_document.specs.Views.{plain, opened};
 ghost use Rattle.qe_value.specs.declared.value.Plain.TheOpen.{Plain-F};
 ghost use Rattle.qe_base.specs.Answers.{Answers};
 ghost use Rattle.qe_bson.specs.JsonFaults.{json_refusal};
@@ -19,7 +19,7 @@ ghost use Rattle.qe_base.specs.Bytes.{are_bytes};
 ghost use Rattle.qe_bson.specs.JsonRound.{typed_step, parts_typed, fields_typed, items_typed};
 ghost use Rattle.qe_bson.specs.JsonRound.{ordered, levels};
 ghost use Rattle.qe_bson.specs.JsonWriting.{long, date, object_id, binary, binary_content};
-ghost use Rattle.qe_bson.specs.JsonWriting.{json_of, json_field, json_array, json_object, json_step, opened};
+ghost use Rattle.qe_bson.specs.JsonWriting.{json_of, json_field, json_array, json_object, json_step};
 
 use crate::extended_json::fault::JsonFault;
 use crate::{Document, Value, Values};
@@ -93,7 +93,7 @@ fn binary(alloc: Global, subtype: u8, bytes: &[u8]) -> Result<Json, AllocError>
 
 #[cycle(print)]
 fn value_json(alloc: Global, value: &Value) -> Result<Json, JsonFault>
-    ensures exact { Answers view json_refusal result (json_step (opened value.now)) }
+    ensures exact { Answers view json_refusal result (json_step (opened json_of value.now)) }
     ensures typed { OnOk result (typed_step (parts_typed value.now) ≡ true) }
 {
     match value {

@@ -26,7 +26,7 @@ put_array-returns-in_err-put_element t c =
     let p = err_from_is_err_and c.from_residual-in_err-put_element.result c.from_residual-in_err-put_element.ensures.1 in
     let began : length c.put.new.out.items ≡ length c.args.out.now.items + 4 = ap (λ b. length b) c.in_ok-put.ensures.0 ∙ length-append c.args.out.now.items (0 ∷ 0 ∷ 0 ∷ 0 ∷ []) in
     rw (p.1, p.2, ← c.slice-item-items.ensures)
-    (item_refuses c.in_err-put_element.field-0.0 c.args.out.now.items c.put.new.out.items c.loop-i.out.items c.put_element.new.out.items c.put_element.new.out.items c.slice-item-items.result.now c.loop-i.i c.item-item.result
+    (item_refuses c.args.limit c.in_err-put_element.field-0.0 c.args.out.now.items c.put.new.out.items c.loop-i.out.items c.put_element.new.out.items c.put_element.new.out.items c.slice-item-items.result.now c.loop-i.i c.item-item.result
     c.loop-i-test.true c.item-item.is began c.loop-i.invariant.whole (rw c.format.ensures.text at c.in_err-put_element.ensures))
 
 pub put_array-loop-i-preserved : goal.put_array-loop-i-preserved
@@ -40,7 +40,7 @@ put_document-returns-in_err-put_element t c =
     let p = err_from_is_err_and c.from_residual-in_err-put_element.result c.from_residual-in_err-put_element.ensures.1 in
     let began : length c.put.new.out.items ≡ length c.args.out.now.items + 4 = ap (λ b. length b) c.in_ok-put.ensures.0 ∙ length-append c.args.out.now.items (0 ∷ 0 ∷ 0 ∷ 0 ∷ []) in
     rw (p.1, p.2, ← c.slice-name-items.ensures)
-    (field_refuses c.in_err-put_element.field-0.0 c.args.out.now.items c.put.new.out.items c.loop-name.out.items c.put_element.new.out.items c.put_element.new.out.items c.slice-name-items.result.now c.loop-name.name-index c.loop-name-item.result
+    (field_refuses c.args.limit c.in_err-put_element.field-0.0 c.args.out.now.items c.put.new.out.items c.loop-name.out.items c.put_element.new.out.items c.put_element.new.out.items c.slice-name-items.result.now c.loop-name.name-index c.loop-name-item.result
     c.loop-name-test.true c.loop-name-item.is began c.loop-name.invariant.whole (rw c.as_str.ensures.value at c.in_err-put_element.ensures))
 
 pub put_document-loop-name-preserved : goal.put_document-loop-name-preserved

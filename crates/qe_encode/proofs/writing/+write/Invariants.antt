@@ -19,11 +19,11 @@ decreases-put_array l = 3 * size_of_items l.values.now + 2
 abbrev pub invariant-put_document-loop-name : goal.invariant-put_document-loop-name
 invariant-put_document-loop-name l = record {
   whole : l.out.items ++ fields_bytes (map spelled_field (map field_view (drop l.name-index l.name-items))) ≡ l.initial.out.items ++ fields_bytes (map spelled_field (map field_view l.name-items));
-  small : length l.out.items ≤ 16777216;
+  small : length l.out.items ≤ l.limit;
 }
 
 abbrev pub invariant-put_array-loop-i : goal.invariant-put_array-loop-i
 invariant-put_array-loop-i l = record {
   whole : l.out.items ++ items_bytes l.i (map spelled (map plain (drop l.i l.item-items))) ≡ l.initial.out.items ++ items_bytes 0 (map spelled (map plain l.item-items));
-  small : length l.out.items ≤ 16777216;
+  small : length l.out.items ≤ l.limit;
 }

@@ -14,7 +14,7 @@ pub returns-in_err-put_value-clause-exact : goal.returns-in_err-put_value-clause
 returns-in_err-put_value-clause-exact c =
     let p = err_from_is_err_and c.from_residual.result c.from_residual.ensures.1 in
     let v = plain c.args.value.now in
-    rw (p.1, p.2) (part_refuses (([], v) ∷ []) (spelled v).bytes c.in_err-put_value.field-0.0 (spell c.args.value.now).bytes c.new-out.result.items c.put_value.new.out.items
+    rw (p.1, p.2) (part_refuses (([], v) ∷ []) (spelled v).bytes 16777216 c.in_err-put_value.field-0.0 (spell c.args.value.now).bytes c.new-out.result.items c.put_value.new.out.items
     (omega (arith, alone_length v, ap (λ (s : Spelled). length s.bytes) (spell_plain c.args.value.now), ap (λ (b : List ℕ). length b) c.new-out.ensures.items)) c.in_err-put_value.ensures)
 
 pub returns-then-len-gt-MOST_BYTES-clause-exact : goal.returns-then-len-gt-MOST_BYTES-clause-exact

@@ -5,9 +5,10 @@ use Rattle.serde_json.proofs.Views.{view-Array, view-Object}
 use Rattle.serde_json.specs.View.{view, members_view}
 use Rattle.qe_document.specs.Falls.{size_of-Doc, size_of-Array}
 use Rattle.qe_document.specs.Views.{plain, size_of}
+use Rattle.qe_value.proofs.CountLemmas.{item_size}
 use Rattle.qe_bson.specs.JsonReading.{then}
 use Rattle.qe_bson.specs.JsonWriting.{array_data, object_data}
-use Rattle.qe_bson.proofs.JsonPrintLemmas.{item_size, field_size, items_go_on, items_fail, items_done, fields_go_on, fields_fail, fields_done}
+use Rattle.qe_bson.proofs.JsonPrintLemmas.{field_size, items_go_on, items_fail, items_done, fields_go_on, fields_fail, fields_done}
 use Rattle.qe_bson.specs.JsonRound.{fields_typed, items_typed}
 use Rattle.qe_bson.proofs.JsonReadLemmas.{fails}
 use Rattle.qe_bson.proofs.JsonTypeLemmas.{items_typed-more, fields_typed-more}
