@@ -1,16 +1,17 @@
 -- What the form of a field object gives: types that fields have, and ends that fit the type.
 use Rattle.std.proofs.Common.{◌≡◌, ℕ, inl, inr, ℤ, Bool, true, false, not, ◌&&◌, ◌||◌, if◌then◌else◌, List, length, Option, None, Some, option_map, refl, subst, ◌∙◌}
-use Rattle.std.specs.Prelude.{Result, Ok, Err, bytes_eq, codes, int_le, nat_le, ◌==◌, unwrap_or}
+use Rattle.std.specs.Prelude.{Ok, bytes_eq, codes, int_le, is_some, nat_le, ◌==◌, unwrap_or}
+use Rattle.std.specs.List.{list_all}
 use Rattle.std.proofs.lemmas.Bool.{cases_Bool, and_parts}
 use Rattle.qe_value.specs.declared.value.Plain.{Plain}
 use Rattle.qe_value.specs.Views.{fields_of}
 use Rattle.qe_edges.specs.Rules as edges
 use Rattle.qe_field.specs.declared.fault.SchemaFault.TheVariants as s
 use Rattle.qe_field.specs.declared.shape.Rules.{Rules}
-use Rattle.qe_field.specs.Judgements.{refuse_as}
 use Rattle.qe_field.specs.Reading.{as_u32, domain_of, equality_kind, field_domain, given_domain, has_trim_fault, range_kind}
 use Rattle.qe_field.specs.Schema.{EndsFit, is_number_kind, is_value_kind}
-use Rattle.qe_field.specs.Shape.{◌>>=◌, EncryptedForm, FieldForm, count_of, encrypted_in, ends_fit, is_int32, no_other_name, number_if_named, number_named, rules_if_range, rules_in, shape_in, shape_of, text_named}
+use Rattle.qe_field.specs.Shape.{◌>>=◌, EncryptedForm, FieldForm, encrypted_in, ends_fit, is_int32, is_known, no_other_name, number_if_named, number_named, rules_if_range, rules_in, shape_in, shape_of, text_named}
+use Rattle.qe_field.proofs.GaveLemmas.{unwrapped}
 
 -- what two judgements in order gave
 record Gave {A B : Type 0} (first : Option A) (next : A → Option B) (last : B) : Type 0 where
@@ -64,11 +65,6 @@ fit_parts : (is_int low high : Bool) → (not is_int || (low && high)) ≡ true 
 fit_parts true low high h is = and_parts _ _ h
 fit_parts false low high h is = cc
 
--- a value that a fault of another kind leaves
-wrapped : {A D E : Type 0} (wrap : D → E) (r : Result A D) (x : A) → refuse_as wrap r ≡ Ok x → r ≡ Ok x
-wrapped wrap (Ok y) x h = cc
-wrapped wrap (Err fault) x h = cc
-
 -- a domain has the ends that it was made of
 domain_kept : (low high : ℤ) (sparsity : ℕ) (trim : Option ℕ) (domain : edges.Rules) → domain_of low high sparsity trim ≡ Ok domain
     → edges.rules_of low high sparsity trim ≡ domain
@@ -91,7 +87,7 @@ domain_kept low high sparsity trim domain h =
 pub ends_told : (i : ℕ) (name : List ℕ) (kind : ℕ) (rules : Rules) (domain : edges.Rules) → range_kind name ≡ Some kind → FormFits name (Some rules)
     → field_domain i rules ≡ Ok domain → EndsFit kind domain
 ends_told i name kind rules domain typed fits is int =
-    let given = wrapped (s.BadDomain i) (given_domain rules) domain is in
+    let given = unwrapped (s.BadDomain i) (given_domain rules) domain is in
     let sparsity = unwrap_or (option_map as_u32 rules.sparsity) 2 in
     let made = domain_kept rules.min rules.max sparsity (option_map as_u32 rules.trim) domain given in
     let named = int_told (bytes_eq name (codes "int")) (bytes_eq name (codes "long")) kind typed int in
@@ -156,7 +152,7 @@ encrypted_fit elements form h =
 
 checked_is : (elements : List (List ℕ × Plain)) (form checked : EncryptedForm) → no_other_name elements form ≡ Some checked → form ≡ checked
 checked_is elements form checked h =
-    elim (cases_Bool (length elements == count_of form)) [
+    elim (cases_Bool (list_all (is_known (is_some form.rules)) elements)) [
       | inl sure ↦ let made = rw sure at h in cc
       | inr failed ↦ let made = rw failed at h in cc
     ]

@@ -16,7 +16,7 @@ known fields path = known_from 0 path fields
 abbrev pub number_with : List Field → List ℕ → Option ℕ
 number_with fields path = option_map (λ found. found.0) (known fields path)
 
--- the path of the field of a number
+-- the path of the field of a number, and the empty one where there is no field of the number
 abbrev pub path_or_none : Option Field → List ℕ
 path_or_none None = []
 path_or_none (Some field) = field.path

@@ -1,5 +1,6 @@
 -- The form of a field object: which names it has, and of which types their values are.
-use Rattle.std.specs.Prelude.{ℕ, ◌+◌, ◌&&◌, ◌||◌, ◌==◌, ℤ, pos, negsuc, int_le, is_some, List, length, codes, Bool, not, bytes_eq, Option, None, Some, option_map, if◌then◌else◌}
+use Rattle.std.specs.Prelude.{ℕ, ◌&&◌, ◌||◌, ◌==◌, ℤ, pos, negsuc, int_le, is_some, List, length, codes, Bool, not, bytes_eq, Option, None, Some, option_map, if◌then◌else◌}
+use Rattle.std.specs.List.{list_all}
 use Rattle.qe_value.specs.declared.value.Plain.{Plain}
 use Rattle.qe_value.specs.Names.{value_named}
 use Rattle.qe_value.specs.Views.{fields_of}
@@ -68,16 +69,19 @@ rules_if_range query value_type elements =
     else if bytes_eq query (codes "equality") then Some None
     else None
 
-abbrev pub one_if : Bool → ℕ
-one_if b = if b then 1 else 0
+-- the names of an encrypted field's object
+abbrev pub is_encrypted_name : List ℕ → Bool
+is_encrypted_name name =
+    bytes_eq name (codes "path") || (bytes_eq name (codes "bsonType") || (bytes_eq name (codes "keyId")
+    || (bytes_eq name (codes "query") || (bytes_eq name (codes "contention") || bytes_eq name (codes "greatest")))))
 
-abbrev pub count_of_rules : Option Rules → ℕ
-count_of_rules None = 0
-count_of_rules (Some rules) = 2 + one_if (is_some rules.sparsity) + one_if (is_some rules.trim)
+-- .. and a range field's beside them
+abbrev pub is_rule_name : List ℕ → Bool
+is_rule_name name =
+    bytes_eq name (codes "min") || (bytes_eq name (codes "max") || (bytes_eq name (codes "sparsity") || bytes_eq name (codes "trimFactor")))
 
--- how many names an encrypted field's object has, its path among them
-abbrev pub count_of : EncryptedForm → ℕ
-count_of form = 4 + one_if (is_some form.contention) + one_if (is_some form.greatest) + count_of_rules form.rules
+abbrev pub is_known : Bool → List ℕ × Plain → Bool
+is_known ranged element = is_encrypted_name element.0 || (ranged && is_rule_name element.0)
 
 unfoldable pub encrypted_in : List (List ℕ × Plain) → Option EncryptedForm
 encrypted_in elements = do
@@ -90,9 +94,9 @@ encrypted_in elements = do
   Some (record { value_type = value_type; key_id = key_id; contention = contention; greatest = greatest; rules = rules })
 
 abbrev pub no_other_name : List (List ℕ × Plain) → EncryptedForm → Option EncryptedForm
-no_other_name elements form = if length elements == count_of form then Some form else None
+no_other_name elements form = if list_all (is_known (is_some form.rules)) elements then Some form else None
 
--- one name: a plain field; names are distinct, so a count shows that there is no other than those that are read
+-- one name, the path: a plain field; every other object is an encrypted field's
 unfoldable pub shape_in : List (List ℕ × Plain) → Option FieldForm
 shape_in elements = do
   path ← text_named (codes "path") elements

@@ -16,7 +16,7 @@ mod values;
 
 pub use fault::SchemaFault;
 pub use field::{Field, FieldKind};
-pub use lookup::{encrypted_numbers, greatest_of, is_encrypted, known, number_with};
-pub use names::is_reserved;
+pub use lookup::{encrypted_numbers, greatest_of, is_encrypted, known, number_with, path_of};
+pub use names::{is_path, is_reserved};
 pub use reading::read_fields;
 pub use values::{elements_in, is_id, items_in, number_in, text_in};

@@ -33,6 +33,16 @@ pub fn number_with(fields: &[Field], path: &str) -> Option<u32>
     }
 }
 
+/// The path of the field of a number; it is empty where there is no field of the number.
+pub fn path_of(fields: &[Field], number: u32) -> &str
+    ensures { result.now ≡ lookup.path_of fields.now number }
+{
+    match fields.get(number as usize) {
+        Some(field) => field.path.as_str(),
+        None => "",
+    }
+}
+
 /// Whether fields of the kind are encrypted.
 pub fn is_encrypted(kind: &FieldKind) -> bool
     ensures { result ≡ lookup.is_encrypted kind.now }

@@ -40,7 +40,7 @@ fn begins_with_letter(bytes: &[u8]) -> bool
 }
 
 /// Whether the text is 1 to 64 ASCII letters, digits and `_`, beginning with a letter.
-pub(crate) fn is_path(text: &str) -> bool
+pub fn is_path(text: &str) -> bool
     ensures { result ≡ names.is_path text.now }
 {
     let bytes = text.as_bytes();

@@ -1,11 +1,13 @@
 //! The form of a field object: which names it has, and of which types their values are.
 
 ghost use Rattle.std.specs.Prelude.{◌≡◌, option_map};
+ghost use Rattle.std.specs.List.{list_all};
 ghost use Rattle.std.specs.Option.{option_copied};
-ghost use Rattle.qe_value.specs.Views.{plain};
+ghost use Rattle.qe_value.specs.Views.{plain, field_view};
 ghost use Rattle.qe_field.specs.Shape as shape;
 
 use crate::values::{elements_in, number_in, text_in};
+use qe_base::Text;
 use qe_value::{Document, Value};
 
 /// The rules of a range field, as they are given.
@@ -111,24 +113,41 @@ fn rules_if_range(query: &str, value_type: &str, elements: &Document) -> Option<
     }
 }
 
-fn count_of_rules(rules: Option<&Rules>) -> usize
-    ensures { result ≡ shape.count_of_rules (option_copied rules.entry) }
+// The names of an encrypted field's object.
+fn is_encrypted_name(name: &str) -> bool
+    ensures { result ≡ shape.is_encrypted_name name.now }
 {
-    match rules {
-        None => 0,
-        Some(rules) => {
-            2 + usize::from(rules.sparsity.is_some()) + usize::from(rules.trim.is_some())
-        }
-    }
+    name == "path"
+        || name == "bsonType"
+        || name == "keyId"
+        || name == "query"
+        || name == "contention"
+        || name == "greatest"
 }
 
-// How many names the object has, its path among them.
-fn count_of(form: &Encrypted<'_>) -> usize
-    ensures { result ≡ shape.count_of (shape.encrypted_view form.now) }
+// .. and a range field's beside them.
+fn is_rule_name(name: &str) -> bool
+    ensures { result ≡ shape.is_rule_name name.now }
 {
-    4 + usize::from(form.contention.is_some())
-        + usize::from(form.greatest.is_some())
-        + count_of_rules(form.rules.as_ref())
+    name == "min" || name == "max" || name == "sparsity" || name == "trimFactor"
+}
+
+fn is_known(ranged: bool, element: &(Text, Value)) -> bool
+    ensures { result ≡ shape.is_known ranged (field_view element.now) }
+{
+    let name = element.0.as_str();
+    is_encrypted_name(name) || (ranged && is_rule_name(name))
+}
+
+fn are_known(ranged: bool, elements: &Document) -> bool
+    ensures { result ≡ list_all (shape.is_known ranged) elements.now }
+{
+    for element in elements.slice() {
+        if !is_known(ranged, element) {
+            return false;
+        }
+    }
+    true
 }
 
 #[tactic(auto, unfolding(crate::specs::Shape::encrypted_in))]
@@ -162,7 +181,7 @@ fn shape_in(elements: &Document) -> Option<Shape<'_>>
         });
     }
     let form = encrypted_in(elements)?;
-    if elements.len() != count_of(&form) {
+    if !are_known(form.rules.is_some(), elements) {
         return None;
     }
     Some(Shape {

@@ -1,5 +1,5 @@
 -- The terms of a filter: those of its names in order, and of `$and` those of its filters in its place.
-use Rattle.std.specs.Prelude.{ℕ, ◌==◌, ℤ, is_none, List, [], ◌∷◌, length, codes, Bool, false, bytes_eq, Option, None, Some, option_map, Result, Ok, Err, if◌then◌else◌}
+use Rattle.std.specs.Prelude.{ℕ, ◌&&◌, ◌||◌, ℤ, is_none, List, [], ◌∷◌, length, codes, Bool, false, bytes_eq, nat_lt, Option, None, Some, option_map, Result, Ok, Err, if◌then◌else◌}
 use Rattle.std.specs.Option.{option_copied}
 use Rattle.std.specs.List.{list_all}
 use Rattle.qe_value.specs.declared.value.Plain.{Plain}
@@ -20,19 +20,17 @@ use Rattle.qe_field.specs.Values.{is_id}
 use Rattle.qe_filter.specs.Typed.{typed, number_of}
 use Rattle.qe_field.specs.Lookup.{known}
 
--- the ends of an interval: a document with the names `$gte`, `$lte` or both, and no other; names are distinct, so that
--- their count shows it
-abbrev pub ends_of : ℕ → Option Plain → Option Plain → Option (Option Plain × Option Plain)
-ends_of count None None = None
-ends_of count (Some low) None = if count == 1 then Some (Some low, None) else None
-ends_of count None (Some high) = if count == 1 then Some (None, Some high) else None
-ends_of count (Some low) (Some high) = if count == 2 then Some (Some low, Some high) else None
-
 abbrev pub ends_view : Ends → Option Plain × Option Plain
 ends_view ends = (option_map plain (option_copied ends.low), option_map plain (option_copied ends.high))
 
+abbrev pub is_end : List ℕ × Plain → Bool
+is_end element = bytes_eq element.0 (codes "$gte") || bytes_eq element.0 (codes "$lte")
+
+-- the ends of an interval: a document with the names `$gte`, `$lte` or both, and no other
 abbrev pub interval_of : List (List ℕ × Plain) → Option (Option Plain × Option Plain)
-interval_of elements = ends_of (length elements) (value_named (codes "$gte") elements) (value_named (codes "$lte") elements)
+interval_of elements =
+    if nat_lt 0 (length elements) && list_all is_end elements
+    then Some (value_named (codes "$gte") elements, value_named (codes "$lte") elements) else None
 
 -- an end that is missing is the domain's; one that is given stands as it is
 abbrev pub end_of : List ℕ → ℕ → ℤ → Option Plain → Result ℤ PlainFault

@@ -26,15 +26,33 @@ struct Ends<'a> {
     high: Option<&'a Value>,
 }
 
+fn is_end(element: &(Text, Value)) -> bool
+    ensures { result ≡ filters.is_end (field_view element.now) }
+{
+    let name = element.0.as_str();
+    name == "$gte" || name == "$lte"
+}
+
+fn are_ends(elements: &Document) -> bool
+    ensures { result ≡ list_all filters.is_end elements.now }
+{
+    for element in elements.slice() {
+        if !is_end(element) {
+            return false;
+        }
+    }
+    true
+}
+
 // A document with the names `$gte`, `$lte` or both, and no other.
 fn interval_of(elements: &Document) -> Option<Ends<'_>>
     ensures { option_map filters.ends_view result ≡ filters.interval_of elements.now }
 {
-    let low = elements.get("$gte");
-    let high = elements.get("$lte");
-    let given = usize::from(low.is_some()) + usize::from(high.is_some());
-    if given > 0 && elements.len() == given {
-        Some(Ends { low, high })
+    if elements.len() > 0 && are_ends(elements) {
+        Some(Ends {
+            low: elements.get("$gte"),
+            high: elements.get("$lte"),
+        })
     } else {
         None
     }

@@ -1,7 +1,6 @@
 //! How many bytes the documents of commands have.
 
 ghost use Rattle.std.specs.Prelude.{◌≡◌, ◌+◌, IfOk, length, map};
-ghost use Rattle.std.specs.Option.{option_copied};
 ghost use Rattle.qe_value.specs.Measures.{fields_length};
 ghost use Rattle.qe_field.specs.Lookup as lookup;
 ghost use Rattle.qe_fits.specs.Counts as counts;
@@ -11,7 +10,7 @@ use crate::cells::{cells_length, inserted_length};
 use crate::lengths::{FRAME, count_of, element_length};
 use crate::terms::filter_length;
 use qe_base::{JobKind, NoMemory};
-use qe_field::Field;
+use qe_field::{Field, path_of};
 use qe_plain::{Pair, PlainCommand};
 use std::alloc::Global;
 
@@ -37,20 +36,11 @@ const RAISE: u32 = 51;
 // A binary of 32 bytes.
 const TOKEN: u32 = 37;
 
-fn path_of(field: Option<&Field>) -> &str
-    ensures { result.now ≡ lookup.path_or_none (option_copied field.entry) }
-{
-    match field {
-        None => "",
-        Some(field) => field.path.as_str(),
-    }
-}
-
 // The element of a token.
 fn token_length(fields: &[Field], pair: &Pair) -> u32
     ensures { result ≡ counts.capped (length (lookup.path_of fields.now pair.now.field) + 2 + 37) }
 {
-    element_length(path_of(fields.get(pair.field as usize)), TOKEN)
+    element_length(path_of(fields, pair.field), TOKEN)
 }
 
 // The elements of the tokens.
@@ -96,7 +86,7 @@ pub(crate) fn counted_length(
         PlainCommand::End { .. } => Ok(END),
         PlainCommand::Abandon { .. } => Ok(ABANDON),
         PlainCommand::Raise { field, .. } => {
-            Ok(count_of(path_of(fields.get(*field as usize)).len()).saturating_add(RAISE))
+            Ok(count_of(path_of(fields, *field).len()).saturating_add(RAISE))
         }
     }
 }

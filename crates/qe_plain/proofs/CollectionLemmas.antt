@@ -29,7 +29,7 @@ abbrev Before : PlainCell → PlainCell → Type 0
 Before a b = a.field < b.field
 
 -- what holds of a cell and of all cells holds where it is put among them
-put_all : (P : PlainCell → Type 0) (new : PlainCell) (cells : List PlainCell) → P new → All P cells → All P (put_cell new cells)
+pub put_all : (P : PlainCell → Type 0) (new : PlainCell) (cells : List PlainCell) → P new → All P cells → All P (put_cell new cells)
 put_all P new [] p all = All-cons P new [] p all
 put_all P new (cell ∷ cells) p all =
     elim (cases_Bool (nat_lt cell.field new.field)) [
@@ -70,7 +70,7 @@ abbrev Apart : PlainDocument → PlainDocument → Type 0
 Apart a b = same_value a.id b.id ≡ false
 
 -- what a change of the first match keeps
-first_all : (P : PlainDocument → Type 0) (is_match : PlainDocument → Bool) (change : PlainDocument → List PlainDocument)
+pub first_all : (P : PlainDocument → Type 0) (is_match : PlainDocument → Bool) (change : PlainDocument → List PlainDocument)
     → ((document : PlainDocument) → P document → All P (change document)) → (documents : List PlainDocument) → All P documents → All P (on_first is_match change documents)
 first_all P is_match change keeps [] all = all
 first_all P is_match change keeps (document ∷ documents) all =
@@ -158,19 +158,19 @@ step_keeps documents (c.Abandon job) next is ordered h = cc
 step_keeps documents (c.Raise field contention) next is ordered h = cc
 
 -- what comes after a step
-record Goes {A B : Type 0} (first : Option A) (next : A → Option B) (last : B) : Type 0 where
-  value : A
-  found : first ≡ Some value
-  then_is : next value ≡ Some last
+pub record Goes {A B : Type 0} (first : Option A) (next : A → Option B) (last : B) : Type 0 where
+  pub value : A
+  pub found : first ≡ Some value
+  pub then_is : next value ≡ Some last
 
-goes : {A B : Type 0} (first : Option A) (next : A → Option B) (last : B) → after first next ≡ Some last → Goes first next last
+pub goes : {A B : Type 0} (first : Option A) (next : A → Option B) (last : B) → after first next ≡ Some last → Goes first next last
 goes None next last h = cc
 goes (Some x) next last h = record { value = x; found = refl; then_is = h }
 
-rest_of : (reply : PlainReply) (rest : Option (List PlainDocument × List PlainReply)) (last : List PlainDocument × List PlainReply) → then_replies reply rest ≡ Some last
-    → (tail : List PlainReply) × (rest ≡ Some (last.0, tail))
+pub rest_of : (reply : PlainReply) (rest : Option (List PlainDocument × List PlainReply)) (last : List PlainDocument × List PlainReply) → then_replies reply rest ≡ Some last
+    → (tail : List PlainReply) × (rest ≡ Some (last.0, tail)) × (reply ∷ tail ≡ last.1)
 rest_of reply None last h = cc
-rest_of reply (Some (documents, replies)) last h = (replies, let e : documents ≡ last.0 = cc in rw e refl)
+rest_of reply (Some (documents, replies)) last h = (replies, let e : documents ≡ last.0 = cc in rw e refl, let e : reply ∷ replies ≡ last.1 = cc in e)
 
 replay_keeps : (documents : List PlainDocument) (commands : List PlainCommand) (last : List PlainDocument × List PlainReply)
     → IsPlainCollection documents → All StoresInOrder commands → replay_from documents commands ≡ Some last → IsPlainCollection last.0

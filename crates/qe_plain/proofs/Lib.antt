@@ -1,3 +1,3 @@
-mod CollectionLemmas
+pub mod CollectionLemmas
 mod PutLemmas
 mod SameLemmas

@@ -1,8 +1,7 @@
 //! Commands and their answers, without any encryption.
 
-use crate::carried::Carried;
 use qe_base::{JobKind, Listing, Text};
-use qe_value::{Document, Values};
+use qe_value::{Carried, Document, Values};
 
 /// A command as it was written, before it is judged under a schema.
 #[derive(Drop)]

@@ -2,5 +2,5 @@ mod CellLemmas
 mod CommandLemmas
 mod KeyLemmas
 mod ResolvedLemmas
-mod SlotLemmas
+pub mod SlotLemmas
 mod UnknownLemmas

@@ -24,7 +24,7 @@ use Rattle.qe_filter.specs.Typed.{typed, widened, number_of}
 use Rattle.qe_filter.specs.Filters.{interval_of, end_of, between, equal_term, range_term, field_term, term_of, one_term, is_flat, flat_terms, member_terms, all_terms, and_terms, name_terms}
 use Rattle.qe_schema.specs.Laws.{EndsAreTheGiven, TermsAreTheFields}
 use Rattle.qe_schema.specs.Resolved.{OfField, IsEqualityOf, IsRange, IsTerm, IsEnd, IsInterval, ends_in}
-use Rattle.qe_field.proofs.GaveLemmas.{gave, there}
+use Rattle.qe_field.proofs.GaveLemmas.{gave, there, gather_all}
 
 -- the field that was found
 pub record Found (fields : List Field) (first : ℕ) (found : ℕ × FieldKind) : Type 0 where
@@ -136,23 +136,6 @@ term_is fields name value term h =
                 field_is fields name name value known_so.value.0 known_so.value.1 term (there _ (known fields name) known_so.value known_so.found) known_so.then_is
           ]
     ]
-
-pub all_append : {B : Type 0} (P : B → Type 0) (ys zs : List B) → AllByRecursion P ys → AllByRecursion P zs → AllByRecursion P (ys ++ zs)
-all_append P [] zs all more = more
-all_append P (y ∷ ys) zs all more = (all.0, all_append P ys zs all.1 more)
-
--- what holds of each item's part holds of all
-pub gather_all : {A B E : Type 0} (P : B → Type 0) (judge : A → Result (List B) E) → ((x : A) (ys : List B) → judge x ≡ Ok ys → AllByRecursion P ys)
-    → (xs : List A) (all : List B) → gather judge xs ≡ Ok all → AllByRecursion P all
-gather_all P judge each [] all h =
-    let e : [] ≡ all = cc in
-    subst (AllByRecursion P) e tt
-gather_all P judge each (x ∷ xs) all h =
-    let first = gave (judge x) _ all h in
-    let rest = gave (gather judge xs) _ all first.then_is in
-    let last = rest.then_is in
-    let e : first.value ++ rest.value ≡ all = cc in
-    subst (AllByRecursion P) e (all_append P first.value rest.value (each x first.value first.found) (gather_all P judge each xs rest.value rest.found))
 
 one_is : (fields : List Field) (element : List ℕ × Plain) (terms : List Term) → one_term fields element ≡ Ok terms → AllByRecursion (IsTerm fields) terms
 unfolding one_term

@@ -13,7 +13,7 @@ use Rattle.qe_schema.specs.Names.{is_path}
 use Rattle.qe_raw.specs.Callers as raw
 use Rattle.qe_script.specs.Callers.{bad_callers, fresh, is_among, caller_of, callers_after, is_some_few, some_callers, callers_from, callers_in}
 use Rattle.qe_script.specs.Read.{IsName, Differ, AreCallers}
-use Rattle.qe_script.proofs.GaveLemmas.{gave, there, found}
+use Rattle.qe_field.proofs.GaveLemmas.{gave, there, found}
 
 place_within : (i : ℕ) (name : List ℕ) (callers : List (List ℕ)) (n : ℕ) → raw.place_from i name callers ≡ Some n → n < i + length callers
 place_within i name [] n h = cc

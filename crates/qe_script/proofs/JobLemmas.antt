@@ -21,7 +21,7 @@ use Rattle.qe_raw.specs.declared.verb.Verb.{Verb}
 use Rattle.qe_raw.specs.declared.verb.Verb.TheVariants as v
 use Rattle.qe_raw.specs.Raw.{command_in}
 use Rattle.qe_raw.specs.Values.{needed, needed_document, needed_whole, searched, kind_in, optional_document, field_in, limit_in, in_63_bits, whole_at, whole_of}
-use Rattle.qe_script.proofs.GaveLemmas.{gave, there, found}
+use Rattle.qe_field.proofs.GaveLemmas.{gave, there, found}
 
 -- the number of the job of a raw command is small
 abbrev pub raw_fits : RawCommand → Bool

@@ -1,5 +1,4 @@
 pub mod CallerLemmas
 pub mod FieldLemmas
-pub mod GaveLemmas
 pub mod JobLemmas
 pub mod ReadLemmas

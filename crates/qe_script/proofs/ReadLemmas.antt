@@ -38,7 +38,7 @@ use Rattle.qe_script.specs.Line.{bad_part, command_of, line_of, line_with, meant
 use Rattle.qe_script.specs.Read.{AreCallers, IsHeader, IsRead, IsScript}
 use Rattle.qe_script.specs.Script.{header_at, line_at, one_line, lines_of, script_with, behind, script_from, script_of}
 use Rattle.qe_script.proofs.CallerLemmas.{caller_is, callers_are}
-use Rattle.qe_script.proofs.GaveLemmas.{gave, past, unmapped, unwrapped, gather_all}
+use Rattle.qe_field.proofs.GaveLemmas.{gave, past, unmapped, unwrapped, gather_all}
 use Rattle.qe_script.proofs.JobLemmas.{raw_fits, raw_small, resolved_small}
 
 -- what a raw line holds

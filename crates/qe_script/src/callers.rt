@@ -1,48 +1,19 @@
 //! The header's callers.
 
-ghost use Rattle.std.specs.Prelude.{◌≡◌, [], None, slice_index};
-ghost use Rattle.std.specs.Char.{is_ascii_alphabetic};
+ghost use Rattle.std.specs.Prelude.{◌≡◌, [], None};
 ghost use Rattle.serde_json.specs.View.{view, items_view, members_view};
 ghost use Rattle.qe_base.specs.Answers.{Answers};
-ghost use Rattle.qe_schema.specs.Names as names;
 ghost use Rattle.qe_raw.specs.Faults.{line_refusal};
 ghost use Rattle.qe_script.specs.Callers as callers;
 
 use qe_base::{Text, Texts};
+use qe_field::is_path;
 use qe_raw::{LineFault, Object, ScriptKind, member};
 use serde_json::Value as Json;
 use std::alloc::Global;
 
-/// The most bytes of a name.
-const MOST_BYTES: usize = 64;
-
 /// The most callers.
 const MOST_CALLERS: usize = 16;
-
-fn begins_with_letter(bytes: &[u8]) -> bool
-    ensures { result ≡ is_ascii_alphabetic (slice_index bytes.now 0) }
-{
-    match bytes.first() {
-        Some(byte) => byte.is_ascii_alphabetic(),
-        None => false,
-    }
-}
-
-fn is_word(bytes: &[u8]) -> bool
-    ensures { result ≡ names.is_word bytes.now }
-{
-    bytes
-        .iter()
-        .all(|byte| byte.is_ascii_alphanumeric() || *byte == b'_')
-}
-
-// 1 to 64 ASCII letters, digits and `_`, beginning with a letter.
-fn is_path(text: &str) -> bool
-    ensures { result ≡ names.is_path text.now }
-{
-    let bytes = text.as_bytes();
-    bytes.len() <= MOST_BYTES && begins_with_letter(bytes) && is_word(bytes)
-}
 
 fn is_among(name: &str, earlier: &[Text]) -> bool
     ensures { result ≡ callers.is_among name.now earlier.now }

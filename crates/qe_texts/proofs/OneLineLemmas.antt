@@ -17,7 +17,8 @@ use Rattle.qe_schema.specs.Judgements.{bind, gather, ahead}
 use Rattle.qe_schema.specs.Names.{is_word, is_path}
 use Rattle.qe_schema.specs.Schema.{IsField, IsSchema}
 use Rattle.qe_texts.specs.declared.fault.PrintFault.{PrintFault}
-use Rattle.qe_texts.specs.Documents.{path_of, text_of, value_text, document_json, document_text}
+use Rattle.qe_field.specs.Lookup.{path_of}
+use Rattle.qe_texts.specs.Documents.{text_of, value_text, document_json, document_text}
 use Rattle.qe_texts.specs.OneLine.{is_no_feed, is_one_line}
 use Rattle.qe_texts.specs.Phrases.{counted, named, twice_counted}
 use Rattle.qe_texts.specs.Replies.{spaced, spaced_document, spaced_value, ended_line, reply_line}

@@ -1,5 +1,5 @@
 -- Values and documents as JSON without spaces, in the forms of MongoDB Extended JSON v2.
-use Rattle.std.specs.Prelude.{ℕ, List, ◌∷◌, [], map, codes, slice_get, Option, None, Some, Result, Ok, Err}
+use Rattle.std.specs.Prelude.{ℕ, List, ◌∷◌, [], map, codes, Result, Ok, Err}
 use Rattle.serde_json.specs.Data.{Data, Members}
 use Rattle.serde_json.specs.Written.{compact_text}
 use Rattle.qe_value.specs.declared.value.Plain.{Plain}
@@ -8,16 +8,9 @@ use Rattle.qe_bson.specs.JsonWriting.{json_of, json_field, json_object, members_
 use Rattle.qe_plain.specs.declared.command.PlainCell.{PlainCell}
 use Rattle.qe_plain.specs.declared.command.PlainDocument.{PlainDocument}
 use Rattle.qe_field.specs.declared.field.Field.{Field}
+use Rattle.qe_field.specs.Lookup.{path_of}
 use Rattle.qe_texts.specs.declared.fault.PrintFault.{PrintFault}
 use Rattle.qe_texts.specs.declared.fault.PrintFault.TheVariants as f
-
-abbrev pub path_or_none : Option Field → List ℕ
-path_or_none None = []
-path_or_none (Some field) = field.path
-
--- the path of a field, and the empty one where there is no field of the number
-abbrev pub path_of : List Field → ℕ → List ℕ
-path_of fields i = path_or_none (slice_get fields i)
 
 abbrev pub cell_element : List Field → PlainCell → List ℕ × Plain
 cell_element fields cell = (path_of fields cell.field, cell.value)

@@ -7,7 +7,8 @@ use Rattle.qe_plain.specs.declared.command.PlainReply.TheVariants as r
 use Rattle.qe_field.specs.declared.field.Field.{Field}
 use Rattle.qe_schema.specs.Judgements.{bind, gather, ahead}
 use Rattle.qe_texts.specs.declared.fault.PrintFault.{PrintFault}
-use Rattle.qe_texts.specs.Documents.{path_of, value_text, document_text}
+use Rattle.qe_field.specs.Lookup.{path_of}
+use Rattle.qe_texts.specs.Documents.{value_text, document_text}
 use Rattle.qe_texts.specs.Phrases.{counted, named, twice_counted}
 
 -- a text after a space

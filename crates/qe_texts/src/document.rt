@@ -11,19 +11,10 @@ ghost use Rattle.qe_texts.specs.Faults.{print_refusal};
 
 use crate::fault::PrintFault;
 use qe_bson::{JsonFault, Value, to_json};
+use qe_field::path_of;
 use qe_schema::{Field, PlainCell, PlainDocument};
 use serde_json::{Map, Value as Json, put};
 use std::alloc::Global;
-
-/// The path of a field; it is empty where there is no field of the number.
-pub(crate) fn path_of(fields: &[Field], number: u32) -> &str
-    ensures { result.now ≡ documents.path_of fields.now number }
-{
-    match fields.get(number as usize) {
-        Some(field) => field.path.as_str(),
-        None => "",
-    }
-}
 
 /// The JSON of a value, as text.
 pub(crate) fn value_text(alloc: Global, value: &Value) -> Result<String, PrintFault>

@@ -8,11 +8,12 @@ ghost use Rattle.qe_texts.specs.Faults.{print_refusal};
 ghost use Rattle.qe_texts.specs.Replies as replies;
 ghost use Rattle.qe_texts.specs.Phrases as phrases;
 
-use crate::document::{document_text, path_of, value_text};
+use crate::document::{document_text, value_text};
 use crate::fault::PrintFault;
 use crate::phrases::{alone, counted, named, twice_counted};
 use qe_base::Text;
 use qe_bson::Value;
+use qe_field::path_of;
 use qe_schema::{Field, PlainDocument, PlainReply, Schema};
 use std::alloc::Global;
 
