@@ -2,6 +2,7 @@
 use Rattle.std.proofs.Common.{◌≡◌, ℕ, suc, ◌+◌, ◌||◌, Bool, true, false, List, [], ◌∷◌, map, refl, ap, sym, subst, ◌∙◌, arith, if◌then◌else◌, Option, None, Some, Ok}
 use Rattle.std.specs.Prelude.{bytes_eq, slice_get}
 use Rattle.std.specs.List.{AllByRecursion}
+use Rattle.std.proofs.lemmas.Bool.{or_parts}
 use Rattle.qe_value.specs.declared.value.Plain.{Plain, out-Plain, roll-Plain, the_lemmas}
 use Rattle.qe_value.specs.declared.value.Plain.TheOpen.{Plain-F}
 use Rattle.qe_value.specs.declared.value.Value.{Value}
@@ -33,7 +34,7 @@ use Rattle.qe_command_document.proofs.ValueLemmas.{value_again}
 use Rattle.qe_command_written.specs.Parts.{FitsCell, CellAgain}
 use Rattle.qe_command_written.specs.Written.{cell_value, cell_elements, doc_elements}
 use Rattle.qe_command_written.proofs.FormLemmas.{insert_under}
-use Rattle.qe_command_written.proofs.TableLemmas.{EachPart, or_parts, each_held, spelled, written_apart}
+use Rattle.qe_command_written.proofs.TableLemmas.{EachPart, each_held, spelled, written_apart}
 
 -- a tree is that of its value
 plain_open : (level : Plain-F Plain) → plain (open_value level) ≡ roll-Plain level
@@ -192,39 +193,76 @@ cells_written path reads elements i (field ∷ fields) (Some (part.Cell cell) �
 pub paths_of : (fields : List Field) (j : ℕ) (field : Field) → slice_get fields j ≡ Some field → path_of fields (0 + j) ≡ field.path
 paths_of fields j field is = let place : 0 + j ≡ j = omega arith in ap (λ n. path_of fields n) place ∙ ap path_or_none is
 
+-- the slots of a document that is inserted, of which the first is the id's
+pub record DocSlots (fields : List Field) (elements : List Element) (doc : Doc) : Type 0 where
+  pub rest : List (Option CellPart)
+  pub each : AreSlots (doc_reads fields) elements (doc_rows fields) (Some (part.Id doc.id) ∷ rest)
+  pub cells : doc.cells ≡ cells_from 0 rest
+  pub same : doc_elements fields doc.id doc.cells ≡ written spell (doc_rows fields) (Some (part.Id doc.id) ∷ rest)
+
+pub doc_slots : (fields : List Field) (elements : List Element) (doc : Doc) → doc_of fields elements ≡ Ok doc → Distinct (doc_rows fields) → DocSlots fields elements doc
+unfolding doc_of
+doc_slots fields elements doc is apart =
+    let reads = doc_reads fields in
+    let found = map_ok doc_build (arranged reads (doc_rows fields) elements) doc is in
+    by_slots found.0 (arranged_slots reads (doc_rows fields) found.0 elements found.1.0) found.1.1
+  where
+    by_slots : (slots : List (Option CellPart)) → AreSlots (doc_reads fields) elements (doc_rows fields) slots → doc ≡ doc_build slots → DocSlots fields elements doc
+    by_slots [] each is = absurd each
+    by_slots (None ∷ slots) each is = let no = each.0.0 in absurd (cc)
+    by_slots (Some (part.Cell cell) ∷ slots) each is = absurd (doc_id fields each.0.0 (part.Cell cell) each.0.1.1)
+    by_slots (Some (part.Id id) ∷ slots) each is =
+        let only = cells_only fields fields slots elements apart.0 each.1 in
+        subst (λ d. DocSlots fields elements d) (sym is) (record {
+          rest = slots;
+          each = each;
+          cells = refl;
+          same = ap (λ more. (id_name, plain id) ∷ more) (cells_written (path_of fields) (doc_reads fields) elements 0 fields slots (paths_of fields) each.1 only);
+        })
+
 -- a document that is inserted
 pub doc_written : (fields : List Field) (elements : List Element) (doc : Doc) → doc_of fields elements ≡ Ok doc → Distinct (doc_rows fields)
     → AllByRecursion (λ c. FitsCell c.1) doc.cells × (Distinct (doc_elements fields doc.id doc.cells)
     × (AllByRecursion (λ c. CellAgain c.1) doc.cells → doc_of fields (doc_elements fields doc.id doc.cells) ≡ Ok doc))
 unfolding doc_of
 doc_written fields elements doc is apart =
-    let reads = doc_reads fields in
-    let found = map_ok doc_build (arranged reads (doc_rows fields) elements) doc is in
-    by_slots found.0 (arranged_slots reads (doc_rows fields) found.0 elements found.1.0) found.1.1
-  where
-    by_slots : (slots : List (Option CellPart)) → AreSlots (doc_reads fields) elements (doc_rows fields) slots → doc ≡ doc_build slots
-        → AllByRecursion (λ c. FitsCell c.1) doc.cells × (Distinct (doc_elements fields doc.id doc.cells)
-        × (AllByRecursion (λ c. CellAgain c.1) doc.cells → built (doc_reads fields) (doc_rows fields) doc_build (doc_elements fields doc.id doc.cells) ≡ Ok doc))
-    by_slots [] each is = absurd each
-    by_slots (None ∷ slots) each is = let no = each.0.0 in absurd (cc)
-    by_slots (Some (part.Cell cell) ∷ slots) each is = absurd (doc_id fields each.0.0 (part.Cell cell) each.0.1.1)
-    by_slots (Some (part.Id id) ∷ slots) each is =
-        let all : List (Option CellPart) = Some (part.Id id) ∷ slots in
-        let only = cells_only fields fields slots elements apart.0 each.1 in
-        let same : doc_elements fields id (cells_from 0 slots) ≡ written spell (doc_rows fields) all =
-        ap (λ more. (id_name, plain id) ∷ more) (cells_written (path_of fields) (doc_reads fields) elements 0 fields slots (paths_of fields) each.1 only) in
-        let fit = each_held (doc_reads fields) (doc_rows fields) all elements PartFits (λ name value x is. (doc_part fields name value x is).0) each in
-        subst (λ (d : Doc). AllByRecursion (λ c. FitsCell c.1) d.cells × (Distinct (doc_elements fields d.id d.cells)
-        × (AllByRecursion (λ c. CellAgain c.1) d.cells → built (doc_reads fields) (doc_rows fields) doc_build (doc_elements fields d.id d.cells) ≡ Ok d))) (sym is) (
-          cells_fit 0 slots fit.1,
-          (
-            subst (λ es. Distinct es) (sym same) (written_apart spell (doc_rows fields) all apart),
-            λ again.
-                ap (built (doc_reads fields) (doc_rows fields) doc_build) same
-                ∙ written_read (doc_reads fields) spell (doc_rows fields) doc_build all apart
-                (spelled (doc_reads fields) spell PartAgain (doc_rows fields) all elements (λ name value x is. (doc_part fields name value x is).1) each (tt, cells_again 0 slots again)),
-          ),
-        )
+    let found = doc_slots fields elements doc is apart in
+    let all : List (Option CellPart) = Some (part.Id doc.id) ∷ found.rest in
+    let fit = each_held (doc_reads fields) (doc_rows fields) all elements PartFits (λ name value x is. (doc_part fields name value x is).0) found.each in
+    let built_again : doc_build all ≡ doc = λ i. record { id = doc.id; cells = sym found.cells i } in (
+      subst (AllByRecursion (λ c. FitsCell c.1)) (sym found.cells) (cells_fit 0 found.rest fit.1),
+      (
+        subst (λ es. Distinct es) (sym found.same) (written_apart spell (doc_rows fields) all apart),
+        λ again.
+            ap (built (doc_reads fields) (doc_rows fields) doc_build) found.same
+            ∙ written_read (doc_reads fields) spell (doc_rows fields) doc_build all apart
+            (spelled (doc_reads fields) spell PartAgain (doc_rows fields) all elements (λ name value x is. (doc_part fields name value x is).1) found.each
+            (tt, cells_again 0 found.rest (subst (AllByRecursion (λ c. CellAgain c.1)) found.cells again)))
+            ∙ ap (λ d. Ok d) built_again,
+      ),
+    )
+
+-- the slots of a set
+pub record SetSlots (fields : List Field) (elements : List Element) (set : List (ℕ × SentCell)) : Type 0 where
+  pub slots : List (Option CellPart)
+  pub each : AreSlots (set_reads fields) elements (field_rows fields) slots
+  pub cells : set ≡ cells_from 0 slots
+  pub same : cell_elements fields set ≡ written spell (field_rows fields) slots
+
+pub set_slots : (fields : List Field) (elements : List Element) (set : List (ℕ × SentCell)) → set_of fields elements ≡ Ok set → SetSlots fields elements set
+unfolding set_of
+set_slots fields elements set is =
+    let reads = set_reads fields in
+    let rows = field_rows fields in
+    let found = map_ok (cells_from 0) (arranged reads rows elements) set is in
+    let each = arranged_slots reads rows found.0 elements found.1.0 in
+    let only = each_held reads rows found.0 elements IsCell (λ name value x is. (set_part fields name value x is).0) each in
+    record {
+      slots = found.0;
+      each = each;
+      cells = found.1.1;
+      same = ap (cell_elements fields) found.1.1 ∙ cells_written (path_of fields) reads elements 0 fields found.0 (paths_of fields) each only;
+    }
 
 -- and a set
 pub set_written : (fields : List Field) (elements : List Element) (set : List (ℕ × SentCell)) → set_of fields elements ≡ Ok set → Distinct (field_rows fields)
@@ -233,20 +271,16 @@ unfolding set_of
 set_written fields elements set is apart =
     let reads = set_reads fields in
     let rows = field_rows fields in
-    let found = map_ok (cells_from 0) (arranged reads rows elements) set is in
-    let slots = found.0 in
-    let each = arranged_slots reads rows slots elements found.1.0 in
-    let only = each_held reads rows slots elements IsCell (λ name value x is. (set_part fields name value x is).0) each in
-    let fit = each_held reads rows slots elements PartFits (λ name value x is. (set_part fields name value x is).1.0) each in
-    let same : cell_elements fields (cells_from 0 slots) ≡ written spell rows slots = cells_written (path_of fields) reads elements 0 fields slots (paths_of fields) each only in
-    subst (λ (s : List (ℕ × SentCell)). AllByRecursion (λ c. FitsCell c.1) s × (Distinct (cell_elements fields s)
-    × (AllByRecursion (λ c. CellAgain c.1) s → built reads rows (cells_from 0) (cell_elements fields s) ≡ Ok s))) (sym found.1.1) (
-      cells_fit 0 slots fit,
+    let found = set_slots fields elements set is in
+    let fit = each_held reads rows found.slots elements PartFits (λ name value x is. (set_part fields name value x is).1.0) found.each in (
+      subst (AllByRecursion (λ c. FitsCell c.1)) (sym found.cells) (cells_fit 0 found.slots fit),
       (
-        subst (λ es. Distinct es) (sym same) (written_apart spell rows slots apart),
+        subst (λ es. Distinct es) (sym found.same) (written_apart spell rows found.slots apart),
         λ again.
-            ap (built reads rows (cells_from 0)) same
-            ∙ written_read reads spell rows (cells_from 0) slots apart
-            (spelled reads spell PartAgain rows slots elements (λ name value x is. (set_part fields name value x is).1.1) each (cells_again 0 slots again)),
+            ap (built reads rows (cells_from 0)) found.same
+            ∙ written_read reads spell rows (cells_from 0) found.slots apart
+            (spelled reads spell PartAgain rows found.slots elements (λ name value x is. (set_part fields name value x is).1.1) found.each
+            (cells_again 0 found.slots (subst (AllByRecursion (λ c. CellAgain c.1)) found.cells again)))
+            ∙ ap (λ s. Ok s) (sym found.cells),
       ),
     )

@@ -24,10 +24,11 @@ use Rattle.qe_command_document.specs.declared.part.Op.TheVariants as op
 use Rattle.qe_command_document.specs.declared.part.Part.{Part}
 use Rattle.qe_command_document.specs.declared.part.Part.TheVariants as part
 use Rattle.qe_command_document.specs.CommandDocument.{op_named, op_of, command_rows, command_reads, command_build, doc_in, set_in, filter_in, ids_in, kind_in, tokens_in, number_in, limit_in, field_in, IsCommandDocument}
+use Rattle.qe_command_fits.proofs.ElementLemmas.{fits_64}
 use Rattle.qe_command_written.specs.Parts.{FitsParts, PartsAgain}
 use Rattle.qe_command_written.specs.Written.{doc_elements, cell_elements, filter_value, token_elements, kind_name, command_elements}
 use Rattle.qe_command_written.proofs.DueLemmas.{written_bytes}
-use Rattle.qe_command_written.proofs.SlotLemmas.{needed_slot, fits_64, fits_32, doc_slot, set_slot, filter_slot, tokens_slot, ids_slot, kind_slot, job_slot, contention_slot, limit_slot, field_slot}
+use Rattle.qe_command_written.proofs.SlotLemmas.{needed_slot, fits_32, doc_slot, set_slot, filter_slot, tokens_slot, ids_slot, kind_slot, job_slot, contention_slot, limit_slot, field_slot}
 
 -- the parts of a command as they are written, where the command's name is given
 abbrev spell : List Field → List ℕ → Part → Plain
@@ -96,7 +97,7 @@ find_shown fields command elements schema document is =
         named = refl;
         laid = record {
           slots = slots;
-          laid = written_laid reads (spell fields (codes "find")) rows slots (refl, (refl, (refl, tt))) (refl, (one_is.1.1.1 again, (two_is.1.1, tt)));
+          laid = written_laid reads (spell fields (codes "find")) rows slots (refl, (refl, (refl, tt))) (refl, (one_is.1.1.1 again, (two_is.1.1.1, tt)));
           built_of = refl;
         };
       },
@@ -171,7 +172,7 @@ begin_shown fields command elements schema document is =
         named = refl;
         laid = record {
           slots = slots;
-          laid = written_laid reads (spell fields (codes "begin")) rows slots (refl, (refl, (refl, tt))) (refl, (one_is.1.1, (two_is.1.1.1, tt)));
+          laid = written_laid reads (spell fields (codes "begin")) rows slots (refl, (refl, (refl, tt))) (refl, (one_is.1.1.1, (two_is.1.1.1, tt)));
           built_of = refl;
         };
       },
@@ -269,7 +270,7 @@ raise_shown fields command elements schema document is =
         named = refl;
         laid = record {
           slots = slots;
-          laid = written_laid reads (spell fields (codes "raise")) rows slots (refl, (refl, (refl, tt))) (refl, (one_is.1.1, (two_is.1.1.1, tt)));
+          laid = written_laid reads (spell fields (codes "raise")) rows slots (refl, (refl, (refl, tt))) (refl, (one_is.1.1.1, (two_is.1.1.1, tt)));
           built_of = refl;
         };
       },

@@ -45,3 +45,7 @@ refused_so (Some fault) None whole due all leads is = absurd (cc)
 refused_so {B} {C} (Some fault) (Some other) whole due all leads is =
     let same : other ≡ fault = cc in
     ap (λ it. unless it (Ok all)) (leads fault (ap (λ f. Some f) same))
+
+-- where no part has a fault, only want of memory is left
+pub refused_free : {B C : Type 0} (refusal part : Option EncodeFault) (due : B) (all : C) → part ≡ None → Refuses refusal (unless part (Ok due)) → Refuses refusal (Ok all)
+refused_free refusal part due all clean is = refused_so refusal part None due all (λ fault hit. sym clean ∙ hit) is

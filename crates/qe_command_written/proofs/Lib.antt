@@ -6,3 +6,8 @@ pub mod CellLemmas
 pub mod TermLemmas
 pub mod SlotLemmas
 pub mod CommandLemmas
+pub mod NearLemmas
+pub mod PayloadNear
+pub mod CommandNear
+pub mod TermNear
+pub mod CommandWhole

@@ -1,13 +1,15 @@
 -- The elements of commands: what was read under each name is written and read again.
-use Rattle.std.proofs.Common.{◌≡◌, ℕ, ℤ, pos, negsuc, ◌<◌, ◌^◌, ◌&&◌, Bool, true, false, List, refl, ap, sym, subst, ◌∙◌, arith, if◌then◌else◌, Option, None, Some, Ok}
-use Rattle.std.specs.Prelude.{codes, nat_abs, int_le, FitsSigned}
-use Rattle.std.specs.Int.{w32, w64}
+use Rattle.std.proofs.Common.{◌≡◌, ℕ, ℤ, pos, negsuc, ◌<◌, ◌^◌, ◌&&◌, Bool, true, false, List, refl, ap, sym, subst, ◌∙◌, arith, inl, inr, if◌then◌else◌, Option, None, Some, Ok}
+use Rattle.std.specs.Prelude.{bytes_eq, codes, nat_abs, int_le, FitsSigned}
+use Rattle.std.specs.Int.{w32}
 use Rattle.std.specs.List.{AllByRecursion}
+use Rattle.std.proofs.lemmas.Bool.{cases_Bool, cond-true, cond-false}
+use Rattle.std.proofs.lemmas.Slice.Eq.{bytes_eq-Decides}
 use Rattle.qe_base.specs.declared.maintenance.JobKind.{JobKind}
 use Rattle.qe_base.specs.declared.maintenance.JobKind.TheVariants.{Compact, Cleanup}
 use Rattle.qe_value.specs.declared.value.Plain.{Plain}
 use Rattle.qe_value.specs.declared.value.Plain.TheVariants as p
-use Rattle.qe_value.proofs.PlainLemmas.{out-Int32, out-Int64}
+use Rattle.qe_value.proofs.PlainLemmas.{out-Int32}
 use Rattle.qe_encode.proofs.FlatLemmas.{writing_laws}
 use Rattle.qe_document.specs.Names.{Distinct, value_named}
 use Rattle.qe_document.specs.Spelling.{IsDocument, FieldsFit, ItemsFit, Fits_with}
@@ -15,14 +17,14 @@ use Rattle.qe_document.specs.Views.{fields_of}
 use Rattle.qe_tokens.specs.declared.words.FieldToken.{FieldToken}
 use Rattle.qe_field.specs.declared.field.Field.{Field}
 use Rattle.qe_field.specs.declared.field.FieldKind.{FieldKind}
-use Rattle.qe_field.specs.Lookup.{known, is_encrypted, path_of}
+use Rattle.qe_field.specs.Lookup.{known, path_of}
 use Rattle.qe_field.specs.Schema.{IsSchema}
 use Rattle.qe_field.specs.Values.{text_in}
 use Rattle.qe_layout.specs.declared.malformed.Kind.{Kind}
-use Rattle.qe_layout.specs.declared.malformed.Kind.TheVariants.{NotInSchema, BadLimit}
+use Rattle.qe_layout.specs.declared.malformed.Kind.TheVariants.{BadLimit}
 use Rattle.qe_layout.specs.Documents.{of_type, document_reads}
 use Rattle.qe_layout.specs.Layouts.{Element, Reader, IsSlot}
-use Rattle.qe_layout.specs.Leaves.{int32_reads, natural_reads}
+use Rattle.qe_layout.specs.Leaves.{int32_reads}
 use Rattle.qe_layout.specs.Refusal.{wrong, map_read, read_inside}
 use Rattle.qe_parts.proofs.EntryLemmas.{document_again}
 use Rattle.qe_parts.proofs.FormLemmas.{map_ok, bind_ok, inside_ok}
@@ -32,13 +34,16 @@ use Rattle.qe_command_document.specs.declared.part.Doc.{Doc}
 use Rattle.qe_command_document.specs.declared.part.Part.{Part}
 use Rattle.qe_command_document.specs.declared.part.Part.TheVariants as part
 use Rattle.qe_command_document.specs.CellDocuments.{encrypted_among, doc_of, set_of, tokens_of}
-use Rattle.qe_command_document.specs.CommandDocument.{flag_in, kind_reads, limit_reads, limit_within, named_field, path_reads, plain_reads, element_reads}
+use Rattle.qe_command_document.specs.CommandDocument.{flag_in, kind_named, kind_reads, limit_reads, limit_within, named_field, path_reads, plain_reads, element_reads}
 use Rattle.qe_command_document.specs.FilterArrays.{filter_reads}
 use Rattle.qe_command_document.proofs.SchemaLemmas.{rows_apart}
+use Rattle.qe_command_fits.proofs.CellLemmas.{encrypted_is}
+use Rattle.qe_command_fits.proofs.ElementLemmas.{number_from}
+use Rattle.qe_command_fits.proofs.FieldLemmas.{known_path}
 use Rattle.qe_command_written.specs.Parts.{FitsCell, CellAgain, FitsTerm, TermAgain}
 use Rattle.qe_command_written.specs.Written.{doc_elements, cell_elements, filter_value, token_elements, kind_name}
 use Rattle.qe_command_written.proofs.CellLemmas.{doc_written, set_written}
-use Rattle.qe_command_written.proofs.TermLemmas.{known_path, filter_written, tokens_written}
+use Rattle.qe_command_written.proofs.TermLemmas.{filter_written, tokens_written}
 
 -- what a needed slot holds
 pub needed_slot : {A : Type 0} (reads : Reader A) (elements : List Element) (name : List ℕ) (kind : Kind) (s : Option A) → IsSlot reads elements (name, Some kind) s
@@ -46,14 +51,7 @@ pub needed_slot : {A : Type 0} (reads : Reader A) (elements : List Element) (nam
 needed_slot reads elements name kind None is = let no = is.0 in absurd (cc)
 needed_slot reads elements name kind (Some x) is = (x, (refl, is))
 
--- numbers of documents have their bits
-pub fits_64 : (elements : List Element) (name : List ℕ) (n : ℕ) → IsDocument elements → value_named name elements ≡ Some (p.Int64 (pos n)) → n < 2 ^ 63
-unfolding FieldsFit
-fits_64 elements name n document found =
-    let alone = writing_laws.alone elements name (p.Int64 (pos n)) document found in
-    let signed : FitsSigned w64 (pos n) = subst (λ o. Fits_with (FieldsFit 99) (ItemsFit 99) o) (out-Int64 (pos n)) alone.fits.1.0.1 in
-    omega (arith, signed)
-
+-- a number of a document has its bits
 pub fits_32 : (elements : List Element) (name : List ℕ) (n : ℕ) → IsDocument elements → value_named name elements ≡ Some (p.Int32 (pos n)) → n < 2 ^ 31
 unfolding FieldsFit
 fits_32 elements name n document found =
@@ -114,36 +112,57 @@ tokens_slot fields value x schema is =
     let w = tokens_written fields inner.0 found.0 (inside_ok name (tokens_of fields inner.0) found.0 inner.1.1) (rows_apart fields schema).1 in
     (found.0, (found.1.1, (w.0, ap (map_read (λ tokens. part.Tokens tokens)) (document_again (tokens_of fields) name (token_elements fields found.0) found.0 w.1))))
 
+-- a value that was read as one type
+pub type_ok : {A : Type 0} (name : List ℕ) (o : Option A) (x : A) → of_type name o ≡ Ok x → o ≡ Some x
+type_ok name (Some inner) x is = cc
+type_ok name None x is = absurd (cc)
+
+pub text_is : (value : Plain) (name : List ℕ) → text_in value ≡ Some name → value ≡ p.Str name
+text_is (p.Str text) name is = let same : text ≡ name = cc in ap (λ t. p.Str t) same
+text_is _ name is = absurd (cc)
+
+flag_is : (value : Plain) (flag : Bool) → flag_in value ≡ Some flag → value ≡ p.Bool flag
+flag_is (p.Bool b) flag is = let same : b ≡ flag = cc in ap (λ t. p.Bool t) same
+flag_is _ flag is = absurd (cc)
+
 pub ids_slot : (fields : List Field) (value : Plain) (x : Part) → element_reads fields (codes "ids") value ≡ Ok x
-    → (ids : Bool) × ((x ≡ part.Ids ids) × (element_reads fields (codes "ids") (p.Bool ids) ≡ Ok (part.Ids ids)))
+    → (ids : Bool) × ((x ≡ part.Ids ids) × ((value ≡ p.Bool ids) × (element_reads fields (codes "ids") (p.Bool ids) ≡ Ok (part.Ids ids))))
 unfolding element_reads plain_reads
 ids_slot fields value x is =
     let found = map_ok (λ ids. part.Ids ids) (of_type (codes "ids") (flag_in value)) x is in
-    (found.0, (found.1.1, refl))
+    (found.0, (found.1.1, (flag_is value found.0 (type_ok (codes "ids") (flag_in value) found.0 found.1.0), refl)))
+
+kind_text : (text : List ℕ) (kind : JobKind) → kind_named text ≡ Some kind → text ≡ kind_name kind
+kind_text text kind is =
+    elim (cases_Bool (bytes_eq text (codes "compact"))) [
+      | inl same ↦
+          let both : Some Compact ≡ Some kind = sym (cond-true (bytes_eq text (codes "compact")) (Some Compact) _ same) ∙ is in
+          let one : Compact ≡ kind = cc in
+          (bytes_eq-Decides text (codes "compact")).0 same ∙ ap kind_name one
+      | inr other ↦
+          let more = sym (cond-false (bytes_eq text (codes "compact")) (Some Compact) (if bytes_eq text (codes "cleanup") then Some Cleanup else None) other) ∙ is in
+          elim (cases_Bool (bytes_eq text (codes "cleanup"))) [
+            | inl same ↦
+                let both : Some Cleanup ≡ Some kind = sym (cond-true (bytes_eq text (codes "cleanup")) (Some Cleanup) None same) ∙ more in
+                let one : Cleanup ≡ kind = cc in
+                (bytes_eq-Decides text (codes "cleanup")).0 same ∙ ap kind_name one
+            | inr unknown ↦
+                let none : None ≡ Some kind = sym (cond-false (bytes_eq text (codes "cleanup")) (Some Cleanup) None unknown) ∙ more in
+                absurd (cc)
+          ]
+    ]
 
 pub kind_slot : (fields : List Field) (value : Plain) (x : Part) → element_reads fields (codes "kind") value ≡ Ok x
-    → (kind : JobKind) × ((x ≡ part.Kind kind) × (element_reads fields (codes "kind") (p.Str (kind_name kind)) ≡ Ok (part.Kind kind)))
+    → (kind : JobKind) × ((x ≡ part.Kind kind) × ((value ≡ p.Str (kind_name kind)) × (element_reads fields (codes "kind") (p.Str (kind_name kind)) ≡ Ok (part.Kind kind))))
 unfolding element_reads plain_reads
 kind_slot fields value x is =
-    let found = map_ok (λ kind. part.Kind kind) (kind_reads (codes "kind") value) x is in
-    (found.0, (found.1.1, ap (map_read (λ kind. part.Kind kind)) (by_kind found.0)))
-  where
-    by_kind : (kind : JobKind) → kind_reads (codes "kind") (p.Str (kind_name kind)) ≡ Ok kind
-    by_kind Compact = refl
-    by_kind Cleanup = refl
-
-natural_is : (name : List ℕ) (value : Plain) (z : ℤ) → natural_reads name value ≡ Ok z → (n : ℕ) × ((value ≡ p.Int64 (pos n)) × (z ≡ pos n))
-natural_is name (p.Int64 (pos n)) z is = (n, (refl, let same : pos n ≡ z = cc in sym same))
-natural_is name (p.Int64 (negsuc n)) z is = absurd (cc)
-natural_is name _ z is = absurd (cc)
-
--- a number under a name
-number_from : (name : List ℕ) (value : Plain) (x : Part) → map_read (λ number. part.Number (nat_abs number)) (natural_reads name value) ≡ Ok x
-    → (n : ℕ) × ((x ≡ part.Number n) × (value ≡ p.Int64 (pos n)))
-number_from name value x is =
-    let found = map_ok (λ number. part.Number (nat_abs number)) (natural_reads name value) x is in
-    let natural = natural_is name value found.0 found.1.0 in
-    (natural.0, (found.1.1 ∙ ap (λ z. part.Number (nat_abs z)) natural.1.1, natural.1.0))
+    let name = codes "kind" in
+    let found = map_ok (λ kind. part.Kind kind) (kind_reads name value) x is in
+    let text = bind_ok (of_type name (text_in value)) (λ text. of_type name (kind_named text)) found.0 found.1.0 in
+    let same : value ≡ p.Str (kind_name found.0) =
+    text_is value text.0 (type_ok name (text_in value) text.0 text.1.0)
+    ∙ ap (λ t. p.Str t) (kind_text text.0 found.0 (type_ok name (kind_named text.0) found.0 text.1.1)) in
+    (found.0, (found.1.1, (same, ap (λ v. map_read (λ kind. part.Kind kind) (kind_reads name v)) (sym same) ∙ is ∙ ap (λ y. Ok y) found.1.1)))
 
 pub job_slot : (fields : List Field) (value : Plain) (x : Part) → element_reads fields (codes "job") value ≡ Ok x
     → (n : ℕ) × ((x ≡ part.Number n) × ((value ≡ p.Int64 (pos n)) × (element_reads fields (codes "job") (p.Int64 (pos n)) ≡ Ok (part.Number n))))
@@ -177,16 +196,8 @@ limit_slot fields value x is =
     let same : value ≡ p.Int32 (pos found.0) = int32_is name value number.0 number.1.0 ∙ ap (λ z. p.Int32 z) (limit_is name number.0 found.0 number.1.1) in
     (found.0, (found.1.1, (same, ap (λ v. map_read (λ limit. part.Limit limit) (limit_reads name v)) (sym same) ∙ is ∙ ap (λ y. Ok y) found.1.1)))
 
-encrypted_is : (name : List ℕ) (found : Option (ℕ × FieldKind)) (out : ℕ × FieldKind) → encrypted_among name found ≡ Ok out → found ≡ Some out
-encrypted_is name None out is = absurd (cc)
-encrypted_is name (Some given) out is = by_test (is_encrypted given.1) is
-  where
-    by_test : (b : Bool) → (if b then Ok given else wrong name NotInSchema) ≡ Ok out → Some given ≡ Some out
-    by_test true is = let same : given ≡ out = cc in ap (λ g. Some g) same
-    by_test false is = absurd (cc)
-
 pub field_slot : (fields : List Field) (value : Plain) (x : Part) → element_reads fields (codes "field") value ≡ Ok x
-    → (n : ℕ) × ((x ≡ part.Field n) × (element_reads fields (codes "field") (p.Str (path_of fields n)) ≡ Ok (part.Field n)))
+    → (n : ℕ) × ((x ≡ part.Field n) × ((value ≡ p.Str (path_of fields n)) × (element_reads fields (codes "field") (p.Str (path_of fields n)) ≡ Ok (part.Field n))))
 unfolding element_reads plain_reads
 field_slot fields value x is =
     let name = codes "field" in
@@ -194,5 +205,6 @@ field_slot fields value x is =
     let text = bind_ok (of_type name (text_in value)) (named_field fields name) found.0 found.1.0 in
     let field = map_ok (λ (f : ℕ × FieldKind). f.0) (encrypted_among name (known fields text.0)) found.0 text.1.1 in
     let same : text.0 ≡ path_of fields found.0 =
-    known_path fields text.0 field.0.0 field.0.1 (encrypted_is name (known fields text.0) field.0 field.1.0) ∙ ap (path_of fields) (sym field.1.1) in
-    (found.0, (found.1.1, ap (λ path. map_read (λ field. part.Field field) (named_field fields name path)) (sym same) ∙ ap (map_read (λ field. part.Field field)) text.1.1))
+    known_path fields text.0 field.0.0 field.0.1 (encrypted_is name (known fields text.0) field.0 field.1.0).0 ∙ ap (path_of fields) (sym field.1.1) in
+    let value_is : value ≡ p.Str (path_of fields found.0) = text_is value text.0 (type_ok name (text_in value) text.0 text.1.0) ∙ ap (λ path. p.Str path) same in
+    (found.0, (found.1.1, (value_is, ap (λ path. map_read (λ field. part.Field field) (named_field fields name path)) (sym same) ∙ ap (map_read (λ field. part.Field field)) text.1.1)))

@@ -1,6 +1,7 @@
 -- Slots of a table that was read: what holds of each part, and that they are read again as they are written.
-use Rattle.std.proofs.Common.{◌≡◌, ℕ, ◌||◌, Bool, true, false, List, [], ◌∷◌, refl, Option, None, Some, Ok}
+use Rattle.std.proofs.Common.{◌≡◌, ℕ, false, List, [], ◌∷◌, refl, Option, None, Some, Ok}
 use Rattle.std.specs.Prelude.{bytes_eq}
+use Rattle.std.proofs.lemmas.Bool.{or_parts}
 use Rattle.qe_value.specs.declared.value.Plain.{Plain}
 use Rattle.qe_document.specs.Names.{Distinct, is_named}
 use Rattle.qe_layout.specs.Layouts.{Element, Reader, Rows, AreSlots}
@@ -10,10 +11,6 @@ abbrev pub EachPart : {A : Type 0} → (A → Type 0) → List (Option A) → Ty
 EachPart P [] = Unit {0}
 EachPart P (None ∷ slots) = EachPart P slots
 EachPart P (Some x ∷ slots) = P x × EachPart P slots
-
-pub or_parts : (a b : Bool) → (a || b) ≡ false → (a ≡ false) × (b ≡ false)
-or_parts true b is = absurd (cc)
-or_parts false b is = (refl, is)
 
 pub each_held : {A : Type 0} (reads : Reader A) (rows : Rows) (slots : List (Option A)) (elements : List Element) (P : A → Type 0)
     → ((name : List ℕ) (value : Plain) (x : A) → reads name value ≡ Ok x → P x) → AreSlots reads elements rows slots → EachPart P slots

@@ -11,7 +11,7 @@ use Rattle.qe_tokens.specs.declared.words.FieldToken.{FieldToken}
 use Rattle.qe_field.specs.declared.field.Field.{Field}
 use Rattle.qe_field.specs.declared.field.FieldKind.{FieldKind}
 use Rattle.qe_field.specs.declared.field.FieldKind.TheVariants as k
-use Rattle.qe_field.specs.Lookup.{known_from, known, path_of}
+use Rattle.qe_field.specs.Lookup.{known, path_of}
 use Rattle.qe_field.specs.Names.{is_reserved}
 use Rattle.qe_layout.specs.declared.malformed.Kind.TheVariants.{ReservedName}
 use Rattle.qe_layout.specs.Documents.{of_type, each_read}
@@ -30,33 +30,14 @@ use Rattle.qe_command.specs.declared.filter.SentTerm.TheVariants as t
 use Rattle.qe_command_document.specs.CellDocuments.{id_name, id_reads, encrypted_among, token_reads, tokens_from, tokens_of, field_rows}
 use Rattle.qe_command_document.specs.FilterArrays.{found_reads, term_reads, one_read, term_item, filter_reads}
 use Rattle.qe_command_document.specs.Payloads.{equal_reads_of, range_reads_of}
+use Rattle.qe_command_fits.proofs.FieldLemmas.{known_path}
 use Rattle.qe_command_written.specs.Parts.{FitsTerm, TermAgain}
 use Rattle.qe_command_written.specs.Written.{term_name, sought_value, term_value, filter_value, token_elements}
 use Rattle.qe_command_written.proofs.CellLemmas.{id_again, paths_of}
 use Rattle.qe_command_written.proofs.FormLemmas.{equal_under, range_under}
 use Rattle.qe_command_written.proofs.TableLemmas.{EachPart, spelled, written_apart}
 
-some_same : (x y : ℕ × FieldKind) → Some x ≡ Some y → x ≡ y
-some_same x y is = cc
-
--- a field that is known by its path has it
-known_path_from : (path : List ℕ) (i : ℕ) (fields : List Field) (n : ℕ) (kind : FieldKind) → known_from i path fields ≡ Some (n, kind)
-    → (j : ℕ) × ((n ≡ i + j) × (path ≡ path_of fields j))
-known_path_from path i [] n kind is = absurd (cc)
-known_path_from path i (field ∷ fields) n kind is = by_test (known_path_from path (i + 1) fields n kind) (bytes_eq path field.path) (bytes_eq-Decides path field.path).0 is
-  where
-    by_test : (known_from (i + 1) path fields ≡ Some (n, kind) → (j : ℕ) × ((n ≡ i + 1 + j) × (path ≡ path_of fields j))) → (b : Bool) → (b ≡ true → path ≡ field.path) → (if b then Some (i, field.kind) else known_from (i + 1) path fields) ≡ Some (n, kind)
-        → (j : ℕ) × ((n ≡ i + j) × (path ≡ path_of (field ∷ fields) j))
-    by_test later true same is = let at : i ≡ n = ap (λ found. found.0) (some_same (i, field.kind) (n, kind) is) in (0, (omega (arith, at), same refl))
-    by_test later false same is = let rest = later is in (suc rest.0, (omega (arith, rest.1.0), rest.1.1))
-
-pub known_path : (fields : List Field) (name : List ℕ) (n : ℕ) (kind : FieldKind) → known fields name ≡ Some (n, kind) → name ≡ path_of fields n
-known_path fields name n kind is =
-    let found = known_path_from name 0 fields n kind is in
-    let place : found.0 ≡ n = omega (arith, found.1.0) in
-    found.1.1 ∙ ap (path_of fields) place
-
-abbrev Held : List Field → List ℕ → (Plain → Result SentTerm Refusal) → SentTerm → Type 0
+abbrev pub Held : List Field → List ℕ → (Plain → Result SentTerm Refusal) → SentTerm → Type 0
 Held fields name reads term = FitsTerm term × ((name ≡ term_name fields term) × (TermAgain term → reads (sought_value term) ≡ Ok term))
 
 found_at : (fields : List Field) (name : List ℕ) (value : Plain) (term : SentTerm) (found : Option (ℕ × FieldKind)) → known fields name ≡ found → found_reads found name value ≡ Ok term
@@ -74,7 +55,7 @@ found_at fields name value term (Some (n, k.Range id kind contention greatest do
     subst (Held fields name (found_reads (Some (n, k.Range id kind contention greatest domain)) name)) (sym found.1.1)
     (under.0, (known_path fields name n (k.Range id kind contention greatest domain) at, λ again. ap (map_read (λ payload. t.Range n payload)) (under.1 again)))
 
-term_at : (fields : List Field) (name : List ℕ) (value : Plain) (term : SentTerm) → term_reads fields name value ≡ Ok term → Held fields name (term_reads fields name) term
+pub term_at : (fields : List Field) (name : List ℕ) (value : Plain) (term : SentTerm) → term_reads fields name value ≡ Ok term → Held fields name (term_reads fields name) term
 unfolding term_reads
 term_at fields name value term is = by_tests (is_reserved name) (bytes_eq name id_name) (bytes_eq-Decides name id_name).0 is
   where
@@ -138,17 +119,19 @@ filter_written fields name value terms is =
     )
 
 -- tokens
-token_again : (fields : List Field) (name : List ℕ) (value : Plain) (token : List ℕ) → token_reads fields name value ≡ Ok token → token_reads fields name (p.Binary 0 token) ≡ Ok token
+pub token_value : (fields : List Field) (name : List ℕ) (value : Plain) (token : List ℕ) → token_reads fields name value ≡ Ok token → value ≡ p.Binary 0 token
 unfolding token_reads
-token_again fields name value token is = by_test (is_reserved name) is
+token_value fields name value token is = by_test (is_reserved name) is
   where
     by_test : (reserved : Bool) → (if reserved then wrong name ReservedName else bind (encrypted_among name (known fields name)) (λ _. fixed_reads 0 32 name value)) ≡ Ok token
-        → (if reserved then wrong name ReservedName else bind (encrypted_among name (known fields name)) (λ _. fixed_reads 0 32 name (p.Binary 0 token))) ≡ Ok token
+        → value ≡ p.Binary 0 token
     by_test true is = absurd (cc)
     by_test false is =
         let found = bind_ok (encrypted_among name (known fields name)) (λ _. fixed_reads 0 32 name value) token is in
-        let same : value ≡ p.Binary 0 token = token_is name value (part.Token token) (ap (map_read (λ t. part.Token t)) found.1.1) in
-        ap (λ v. bind (encrypted_among name (known fields name)) (λ _. fixed_reads 0 32 name v)) (sym same) ∙ is
+        token_is name value (part.Token token) (ap (map_read (λ t. part.Token t)) found.1.1)
+
+token_again : (fields : List Field) (name : List ℕ) (value : Plain) (token : List ℕ) → token_reads fields name value ≡ Ok token → token_reads fields name (p.Binary 0 token) ≡ Ok token
+token_again fields name value token is = ap (token_reads fields name) (sym (token_value fields name value token is)) ∙ is
 
 none_asked : (slots : List (Option (List ℕ))) → EachPart (λ _. Unit {0}) slots
 none_asked [] = tt
@@ -169,20 +152,37 @@ tokens_as path reads elements i (field ∷ fields) (Some token ∷ slots) paths 
     ap (λ name. (name, p.Binary 0 token) ∷ map (λ (token : FieldToken). (path token.field, p.Binary 0 token.token.0)) (tokens_from (i + 1) slots)) here
     ∙ ap (λ more. (field.path, p.Binary 0 token) ∷ more) rest
 
+pub record TokenSlots (fields : List Field) (elements : List Element) (tokens : List FieldToken) : Type 0 where
+  pub slots : List (Option (List ℕ))
+  pub each : AreSlots (token_reads fields) elements (field_rows fields) slots
+  pub tokens_are : tokens ≡ tokens_from 0 slots
+  pub same : token_elements fields tokens ≡ written (λ token. p.Binary 0 token) (field_rows fields) slots
+
+pub token_slots : (fields : List Field) (elements : List Element) (tokens : List FieldToken) → tokens_of fields elements ≡ Ok tokens → TokenSlots fields elements tokens
+unfolding tokens_of
+token_slots fields elements tokens is =
+    let reads = token_reads fields in
+    let rows = field_rows fields in
+    let found = map_ok (tokens_from 0) (arranged reads rows elements) tokens is in
+    let each = arranged_slots reads rows found.0 elements found.1.0 in
+    record {
+      slots = found.0;
+      each = each;
+      tokens_are = found.1.1;
+      same = ap (token_elements fields) found.1.1 ∙ tokens_as (path_of fields) reads elements 0 fields found.0 (paths_of fields) each;
+    }
+
 pub tokens_written : (fields : List Field) (elements : List Element) (tokens : List FieldToken) → tokens_of fields elements ≡ Ok tokens → Distinct (field_rows fields)
     → Distinct (token_elements fields tokens) × (tokens_of fields (token_elements fields tokens) ≡ Ok tokens)
 unfolding tokens_of
 tokens_written fields elements tokens is apart =
     let reads = token_reads fields in
     let rows = field_rows fields in
-    let found = map_ok (tokens_from 0) (arranged reads rows elements) tokens is in
-    let slots = found.0 in
-    let each = arranged_slots reads rows slots elements found.1.0 in
-    let spell : List ℕ → Plain = λ token. p.Binary 0 token in
-    let same : token_elements fields (tokens_from 0 slots) ≡ written spell rows slots = tokens_as (path_of fields) reads elements 0 fields slots (paths_of fields) each in
-    subst (λ (ts : List FieldToken). Distinct (token_elements fields ts) × (built reads rows (tokens_from 0) (token_elements fields ts) ≡ Ok ts)) (sym found.1.1) (
-      subst (λ es. Distinct es) (sym same) (written_apart spell rows slots apart),
-      ap (built reads rows (tokens_from 0)) same
-          ∙ written_read reads spell rows (tokens_from 0) slots apart
-          (spelled reads spell (λ _. Unit {0}) rows slots elements (λ name value x is asked. token_again fields name value x is) each (none_asked slots)),
+    let found = token_slots fields elements tokens is in
+    let spell : List ℕ → Plain = λ token. p.Binary 0 token in (
+      subst (λ es. Distinct es) (sym found.same) (written_apart spell rows found.slots apart),
+      ap (built reads rows (tokens_from 0)) found.same
+          ∙ written_read reads spell rows (tokens_from 0) found.slots apart
+          (spelled reads spell (λ _. Unit {0}) rows found.slots elements (λ name value x is asked. token_again fields name value x is) found.each (none_asked found.slots))
+          ∙ ap (λ ts. Ok ts) (sym found.tokens_are),
     )

@@ -1,10 +1,8 @@
--- What writing a command refuses: the first payload whose document is refused, and then the command's document.
+-- What writing payloads refuses: the first payload whose document is refused.
 use Rattle.std.specs.Prelude.{ℕ, List, [], ◌∷◌, Option, None, Some, Result, Ok, Err}
 use Rattle.std.specs.Option.{option_or}
 use Rattle.qe_value.specs.declared.fault.EncodeFault.{EncodeFault}
-use Rattle.qe_document.specs.Writing.{encoded, written_as}
-use Rattle.qe_field.specs.declared.field.Field.{Field}
-use Rattle.qe_field.specs.Judgements.{unless}
+use Rattle.qe_document.specs.Writing.{written_as}
 use Rattle.qe_find.specs.Range.{range_elements, written_range}
 use Rattle.qe_insert.specs.Insert.{insert_elements, written_insert}
 use Rattle.qe_command.specs.declared.cells.SentCell.{SentCell}
@@ -13,7 +11,6 @@ use Rattle.qe_command.specs.declared.command.Command.{Command}
 use Rattle.qe_command.specs.declared.command.Command.TheVariants as c
 use Rattle.qe_command.specs.declared.filter.SentTerm.{SentTerm}
 use Rattle.qe_command.specs.declared.filter.SentTerm.TheVariants as t
-use Rattle.qe_command_written.specs.Written.{command_elements}
 
 abbrev pub fault_in : Result (List ℕ) EncodeFault → Option EncodeFault
 fault_in (Ok bytes) = None
@@ -45,7 +42,3 @@ payloads_fault (c.Find filter ids) = terms_fault filter
 payloads_fault (c.Update filter set) = option_or (terms_fault filter) (cells_fault set)
 payloads_fault (c.Delete filter) = terms_fault filter
 payloads_fault _ = None
-
--- the bytes of a command, or the first refusal
-unfoldable pub command_written : List Field → Command → Result (List ℕ) EncodeFault
-command_written fields command = unless (payloads_fault command) (encoded (command_elements fields command))

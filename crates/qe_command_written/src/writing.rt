@@ -6,12 +6,13 @@ ghost use Rattle.std.specs.Option.{option_or};
 ghost use Rattle.qe_base.specs.Answers.{Answers};
 ghost use Rattle.qe_document.specs.Faults.{encode_refusal};
 ghost use Rattle.qe_document.specs.Names.{Distinct};
+ghost use Rattle.qe_document.specs.Spelling.{document_bytes};
 ghost use Rattle.qe_document.specs.Views.{plain};
 ghost use Rattle.qe_field.specs.Judgements.{unless};
 ghost use Rattle.qe_field.specs.Lookup.{path_of};
 ghost use Rattle.qe_value.specs.declared.value.Plain.TheVariants as p;
 ghost use Rattle.qe_command_document.specs.CommandDocument.{Fits, IsCommandDocument};
-ghost use Rattle.qe_command_written.specs.Faults.{cells_fault, terms_fault, payloads_fault, command_written};
+ghost use Rattle.qe_command_written.specs.Faults.{cells_fault, terms_fault, payloads_fault};
 ghost use Rattle.qe_command_written.specs.Parts.{FitsCell, FitsTerm, CellAgain, TermAgain, FitsParts, PartsAgain};
 ghost use Rattle.qe_command_written.specs.Written as written;
 
@@ -188,18 +189,14 @@ fn document_of(alloc: Global, fields: &[Field], command: &Command) -> Result<Doc
 
 /// The command document of a command that fits the schema, in written order: `op`, the other elements in the tables'
 /// order, the id of a document before its fields, fields in schema order, and the terms of a filter in theirs.
-/// `read_command` gives the command again.
-///
-/// It is refused as `encode` refuses the first payload's document that it refuses, or the command's own.
-#[tactic(auto, unfolding(crate::specs::Faults::command_written))]
+/// `read_command` gives the command again. No command that fits is refused: only memory may be wanting.
 pub fn write_command(
     alloc: Global,
     schema: &Schema,
     command: &Command,
 ) -> Result<Bytes, EncodeFault>
     requires { Fits schema.now command.now }
-    // The command's document, or the first refusal.
-    ensures exact { Answers (λ bytes. bytes) encode_refusal result (command_written schema.now command.now) }
+    ensures exact { Answers (λ bytes. bytes) encode_refusal result (Ok (document_bytes (written.command_elements schema.now command.now))) }
     ensures again { IfOk result (λ bytes. IsCommandDocument schema.now command.now bytes) }
 {
     let document = document_of(alloc, schema.fields(), command)?;

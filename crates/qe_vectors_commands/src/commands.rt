@@ -2,12 +2,12 @@
 
 ghost use Rattle.qe_command_document.specs.CommandDocument.{Fits};
 
-use crate::fault::Fault;
 use qe_base::JobKind;
 use qe_command::{Command, nonces_needed};
 use qe_command_document::read_command;
 use qe_command_written::write_command;
 use qe_document::decode;
+use qe_line::{Fault, accepted};
 use qe_payload::Malformed;
 use qe_schema::Schema;
 use qe_tokens::FieldToken;
@@ -16,13 +16,8 @@ use std::alloc::Global;
 /// The schema of a line.
 pub fn schema_of(alloc: Global, line: &[u8]) -> Result<Schema, Fault> {
     let bytes = hex::decode(alloc, line)?;
-    let Ok((document, _)) = decode(alloc, bytes.as_slice()) else {
-        return Err(Fault::Refused);
-    };
-    match Schema::read(alloc, &document) {
-        Ok(schema) => Ok(schema),
-        Err(_) => Err(Fault::Refused),
-    }
+    let (document, _) = accepted(decode(alloc, bytes.as_slice()))?;
+    accepted(Schema::read(alloc, &document))
 }
 
 /// Prints the command of a line, or its refusal.
@@ -55,7 +50,7 @@ fn print_written(
 ) -> Result<(), Fault>
     requires { Fits schema.now command.now }
 {
-    let written = write_command(rt.alloc(), schema, command)?;
+    let written = accepted(write_command(rt.alloc(), schema, command))?;
     let same = written.slice() == bytes;
     println!(rt; "written {} bytes, the same {same}", written.len())?;
     Ok(())

@@ -1,13 +1,12 @@
 //! Prints what `read_command` answers: the standard input has lines of hex digits, first the document of a schema and
-//! then a command document each; `stdout` holds what an independent program answers. Read: fault, commands.
+//! then a command document each; `stdout` holds what an independent program answers. Read: commands.
 #![tactic(auto)]
 
 mod commands;
-mod fault;
 
 use commands::{print_command, schema_of};
-use fault::Fault;
 use qe_base::{Lines, StdSource, take_all};
+use qe_line::Fault;
 
 fn main(rt: HostRuntime) -> Result<(), Fault> {
     let text = take_all(rt.alloc(), &mut StdSource::new(&rt))?;

@@ -1,0 +1,9 @@
+pub mod FieldLemmas
+pub mod IdLemmas
+pub mod FormLemmas
+pub mod PayloadLemmas
+pub mod CellLemmas
+pub mod TermLemmas
+pub mod ElementLemmas
+pub mod SizeLemmas
+pub mod FittingLemmas

@@ -1,0 +1,2 @@
+pub mod OfSchema
+pub mod Sizes
