@@ -3,60 +3,27 @@ use Rattle.std.proofs.Common.{◌≡◌, ℕ, List, [], ◌∷◌, ◌++◌, Boo
 use Rattle.std.proofs.lemmas.Bool.{cond_both, or_parts, or_from, false≢true}
 use Rattle.std.proofs.lemmas.List.{append-nil, map-append}
 use Rattle.std.specs.List.{list_any}
-use Rattle.std.specs.Prelude.{◌==◌, nat_le}
+use Rattle.std.specs.Prelude.{nat_le}
 use Rattle.qe_base.specs.declared.maintenance.Count.{Count}
-use Rattle.qe_base.specs.declared.maintenance.JobKind.{JobKind}
-use Rattle.qe_tokens.specs.declared.words.FieldToken.{FieldToken}
 use Rattle.qe_value.specs.declared.value.Value.{Value}
 use Rattle.qe_store.specs.declared.stored.Cell.{Cell}
 use Rattle.qe_store.specs.declared.stored.Stored.{Stored}
 use Rattle.qe_command.specs.declared.command.Command.{Command}
 use Rattle.qe_command.specs.declared.command.Command.TheVariants as c
 use Rattle.qe_protocol.specs.declared.reply.Reply.{Reply}
-use Rattle.qe_protocol.specs.State.{Job, State, Done, left_of}
-use Rattle.qe_protocol.specs.Contention.{refusal, current_of}
+use Rattle.qe_protocol.specs.State.{State, Done}
+use Rattle.qe_protocol.specs.Contention.{refusal, current_of, raise}
 use Rattle.qe_protocol.specs.Documents.{document_of, has_document, with_cells, change_first, drop_first}
 use Rattle.qe_protocol.specs.Filters.{same_id, matches, filter_rest}
 use Rattle.qe_protocol.specs.Indexing.{index_cells}
-use Rattle.qe_protocol.specs.Jobs.{begun, fresh, resumed, is_parked, begin_with, begin_beside, first_missing, will_be_aside, on_job, step_done, step_job, step_units, end_running}
 use Rattle.qe_protocol.specs.Next.{served, unless_refused, next, sets_for}
-use Rattle.qe_protocol.specs.Units.{UnitsDone}
 use Rattle.qe_protocol.specs.Laws.{ids_of, AreApart, AreTagged, is_delete, ReplacesOne, RemovesOne, ChangedBy}
+use Rattle.qe_protocol.proofs.KeptLemmas.{begin-keeps, step-keeps, end-keeps, abandon-keeps}
 
--- maintenance and a raise keep the documents
-module _ (state : State) where
-  abbrev Same : Done → Type 0
-  Same done = done.state.docs ≡ state.docs
-
-  begun-same : (kind : JobKind) (tokens : List FieldToken) → (begun kind tokens state).docs ≡ state.docs
-  begun-same kind tokens =
-      cond_both (is_parked state.jobs) (resumed kind tokens state) (fresh kind tokens state) (λ (s : State). s.docs ≡ state.docs) (λ _. refl) (λ _. refl)
-
-  begin_with-same : (kind : JobKind) (tokens : List FieldToken) (missing : Option ℕ) → Same (begin_with kind tokens state missing)
-  begin_with-same kind tokens (Some field) = refl
-  begin_with-same kind tokens None = begun-same kind tokens
-
-  pub begin_beside-same : (kind : JobKind) (tokens : List FieldToken) (job : Option Job) → Same (begin_beside kind tokens state job)
-  begin_beside-same kind tokens (Some job) = refl
-  begin_beside-same kind tokens None = begin_with-same kind tokens (first_missing tokens (will_be_aside state))
-
-  on_job-same : (asked : ℕ) (job : Option Job) (go : Job → Done) → ((job : Job) → Same (go job)) → Same (on_job state asked job go)
-  on_job-same asked None go each = refl
-  on_job-same asked (Some job) go each = cond_both (job.number == asked) _ _ Same (λ _. each job) (λ _. refl)
-
-  step_done-same : (job : Job) (done : UnitsDone) (mismatch : Option ℕ) → Same (step_done state job done mismatch)
-  step_done-same job done (Some field) = refl
-  step_done-same job done None = refl
-
-  step_job-same : (asked : ℕ) (nonces : List (List ℕ)) (counts : List Count) → Same (step_job state asked nonces counts)
-  step_job-same asked nonces counts =
-      on_job-same asked state.jobs.job _ (λ running. let done = step_units state running nonces counts in step_done-same running done done.mismatch)
-
-  end_running-same : (job : Job) → Same (end_running state job)
-  end_running-same job = cond_both (left_of state.jobs == 0) _ _ Same (λ _. refl) (λ _. refl)
-
-  raise-same : (field contention : ℕ) → Same (served state (c.Raise field contention) [] [])
-  raise-same field contention = cond_both (nat_le contention (current_of state.current field)) _ _ Same (λ _. refl) (λ _. refl)
+-- a raise keeps the documents
+raise-same : (state : State) (field contention : ℕ) → (raise state field contention).state.docs ≡ state.docs
+raise-same state field contention =
+    cond_both (nat_le contention (current_of state.current field)) _ _ (λ (done : Done). done.state.docs ≡ state.docs) (λ _. refl) (λ _. refl)
 
 -- what holds of the documents holds after every command, where it does after an insert, an update and a delete
 module _ (state : State) (command : Command) (Holds : List Stored → Type 0) (is : Holds state.docs)
@@ -84,10 +51,10 @@ module _ (state : State) (command : Command) (Holds : List Stored → Type 0) (i
   served_holds (c.Delete terms) same nonces counts =
       let sets = sets_for state terms counts in
       cond_both (list_any (matches sets) state.docs) _ _ After (λ _. dropped (ap is_delete (sym same)) (matches sets)) (λ _. is)
-  served_holds (c.Begin kind tokens) same nonces counts = same_holds _ (begin_beside-same state kind tokens state.jobs.job)
-  served_holds (c.Step job limit) same nonces counts = same_holds _ (step_job-same state job nonces counts)
-  served_holds (c.End job) same nonces counts = same_holds _ (on_job-same state job state.jobs.job _ (end_running-same state))
-  served_holds (c.Abandon job) same nonces counts = same_holds _ (on_job-same state job state.jobs.job _ (λ running. refl))
+  served_holds (c.Begin kind tokens) same nonces counts = same_holds _ ((begin-keeps state kind tokens).docs)
+  served_holds (c.Step job limit) same nonces counts = same_holds _ ((step-keeps state job nonces counts).docs)
+  served_holds (c.End job) same nonces counts = same_holds _ ((end-keeps state job).docs)
+  served_holds (c.Abandon job) same nonces counts = same_holds _ ((abandon-keeps state job).docs)
   served_holds (c.Raise field contention) same nonces counts = same_holds _ (raise-same state field contention)
 
   next_holds : (nonces : List (List ℕ)) (counts : List Count) → After (next state command nonces counts)
@@ -248,10 +215,10 @@ module _ (state : State) where
       let sets = sets_for state terms counts in
       cond_both (list_any (matches sets) state.docs) _ _ (Changed (c.Delete terms)) (λ _. drops_one (matches sets) state.docs)
       (λ _. changes_none (c.Delete terms) state.docs)
-  served-changed (c.Begin kind tokens) nonces counts = begin_beside-same state kind tokens state.jobs.job
-  served-changed (c.Step job limit) nonces counts = step_job-same state job nonces counts
-  served-changed (c.End job) nonces counts = on_job-same state job state.jobs.job _ (end_running-same state)
-  served-changed (c.Abandon job) nonces counts = on_job-same state job state.jobs.job _ (λ running. refl)
+  served-changed (c.Begin kind tokens) nonces counts = (begin-keeps state kind tokens).docs
+  served-changed (c.Step job limit) nonces counts = (step-keeps state job nonces counts).docs
+  served-changed (c.End job) nonces counts = (end-keeps state job).docs
+  served-changed (c.Abandon job) nonces counts = (abandon-keeps state job).docs
   served-changed (c.Raise field contention) nonces counts = raise-same state field contention
 
   unless_refused-changed : (command : Command) (refused : Option Reply) (done : Done) → Changed command done → Changed command (unless_refused state refused done)

@@ -7,6 +7,9 @@ pub mod SearchLemmas
 pub mod UnitLemmas
 pub mod StepLemmas
 pub mod RowLemmas
+pub mod WriteLemmas
 pub mod JournalLemmas
 pub mod TagLemmas
 pub mod ContentionLemmas
+pub mod KeptLemmas
+pub mod IdLemmas

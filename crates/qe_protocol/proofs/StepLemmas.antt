@@ -1,6 +1,7 @@
 -- What a step leaves, whether it met a mismatch or none.
-use Rattle.std.proofs.Common.{◌≡◌, ℕ, ◌-◌, List, [], ◌∷◌, ◌++◌, length, true, Option, None, Some, refl, sym, ap, ◌∙◌, subst}
-use Rattle.std.proofs.lemmas.Bool.{cond_both, cond-true, eq-eqb, MatchBool-at_true}
+use Rattle.std.proofs.Common.{◌≡◌, ℕ, ◌-◌, List, [], ◌∷◌, ◌++◌, length, true, Option, None, Some, refl, sym, ap, ◌∙◌, subst, inl, inr}
+use Rattle.std.proofs.lemmas.Bool.{cases_Bool, cond_both, cond-true, cond-false, eq-eqb, MatchBool-at_true}
+use Rattle.std.proofs.lemmas.List.{map-append}
 use Rattle.std.specs.List.{list_any}
 use Rattle.std.specs.Prelude.{◌==◌, nat_le}
 use Rattle.qe_base.specs.declared.maintenance.Count.{Count}
@@ -16,13 +17,13 @@ use Rattle.qe_protocol.specs.State.{Job, State, Done, left_of, answered}
 use Rattle.qe_protocol.specs.Contention.{refusal, current_of}
 use Rattle.qe_protocol.specs.Documents.{has_document}
 use Rattle.qe_protocol.specs.Filters.{matches}
-use Rattle.qe_protocol.specs.Jobs.{begin_with, begin_beside, first_missing, will_be_aside, on_job, AllowedOn, work_of, with_leaves, step_done, step_units, end_running}
+use Rattle.qe_protocol.specs.Jobs.{begin_with, begin_beside, first_missing, will_be_aside, on_job, AllowedOn, work_of, with_work, with_leaves, stepped, step_done, step_units, end_running}
 use Rattle.qe_protocol.specs.Next.{served, unless_refused, next, sets_for}
 use Rattle.qe_protocol.specs.Units.{Work, UnitsDone, units, unit_then, stopped, with_opened, is_mismatch, row_done, doomed_done, captured_done, AllowedUnits}
-use Rattle.qe_protocol.specs.UnitLaws.{IsFirst, work_left}
-use Rattle.qe_protocol.specs.Laws.{IsParkedAt, RunsOn, StepsOn}
+use Rattle.qe_protocol.specs.UnitLaws.{opened_before, IsFirst, work_left}
+use Rattle.qe_protocol.specs.Laws.{IsParkedAt, RunsOn, then_step, StepsJoin, StepsOn}
 use Rattle.qe_protocol.proofs.RefusalLemmas.{IsOther, refusal-other}
-use Rattle.qe_protocol.proofs.UnitLemmas.{mismatch_stays, rows_go_first, compacts_all}
+use Rattle.qe_protocol.proofs.UnitLemmas.{one_and_more, mismatch_stays, rows_go_first, compacts_all}
 
 -- rows are handled in order
 module _ (tokens : List FieldToken) where
@@ -95,6 +96,8 @@ module _ (state : State) where
         aside = dropped.1;
         first = first;
         captured = waits.captured;
+        more = waits.more;
+        doomed = waits.doomed;
       }
   step_done-answered job running nonces counts None is =
       let after = with_leaves job (step_units state job nonces counts).work.leaves in
@@ -174,3 +177,79 @@ module _ (state : State) (job : Job) (compact : job.kind ≡ Compact) (left : �
 pub steps_on : StepsOn
 steps_on state job limit left nonces counts running compact allowed answer =
     on_job-on state job compact left nonces counts state.jobs.job running allowed answer
+
+-- a step of limit 1, and then one of the others
+abbrev stepped_by : State → Job → List (List ℕ) → List Count → Done
+stepped_by state job nonces counts = let done = step_units state job nonces counts in step_done state job done done.mismatch
+
+module _ (state : State) (job : Job) (nonce : List ℕ) (nonces : List (List ℕ)) (counts more : List Count) where
+  abbrev one_done : UnitsDone
+  one_done = step_units state job (nonce ∷ []) counts
+
+  -- the state between them, and the job as it runs on
+  abbrev between : State
+  between = with_work state one_done.work (Some (with_leaves job one_done.work.leaves))
+
+  abbrev running_on : Job
+  running_on = with_leaves job one_done.work.leaves
+
+  abbrev First : Done
+  First = stepped between (r.Stepped (left_of between.jobs)) one_done
+
+  first_is : (mismatch : Option ℕ) (left : ℕ) → (step_done state job one_done mismatch).reply ≡ r.Stepped left → (mismatch ≡ None) × (step_done state job one_done mismatch ≡ First)
+  first_is None left is = (refl, refl)
+  first_is (Some field) left is = absurd (cc)
+
+  both_open : (done : UnitsDone) (mismatch : Option ℕ)
+      → step_done state job (opened_before one_done.opened done) mismatch ≡ then_step First (step_done between running_on done mismatch)
+  both_open done (Some field) =
+      ap (λ (opened : List ℕ). record { state = with_work state done.work None; reply = r.TokenMismatch field; opened = opened })
+      (map-append (λ (row : Entry). row.field) one_done.opened done.opened)
+  both_open done None =
+      let after = with_work state done.work (Some (with_leaves job done.work.leaves)) in
+      ap (λ (opened : List ℕ). record { state = after; reply = r.Stepped (left_of after.jobs); opened = opened })
+      (map-append (λ (row : Entry). row.field) one_done.opened done.opened)
+
+  joined : (left : ℕ) → AllowedUnits job.kind job.tokens (nonce ∷ []) (work_of state job) counts → (stepped_by state job (nonce ∷ []) counts).reply ≡ r.Stepped left
+      → (stepped_by state job (nonce ∷ []) counts ≡ First)
+      × (stepped_by state job (nonce ∷ nonces) (counts ++ more) ≡ then_step First (stepped_by between running_on nonces more))
+  joined left allowed is =
+      let first = first_is one_done.mismatch left is in
+      let done = units job.kind job.tokens nonces one_done.work more in
+      let whole : step_units state job (nonce ∷ nonces) (counts ++ more) ≡ opened_before one_done.opened done =
+      one_and_more job.kind job.tokens nonce nonces (work_of state job) counts more allowed first.0 in
+      (first.1, ap (λ (d : UnitsDone). step_done state job d d.mismatch) whole ∙ both_open done done.mismatch)
+
+pub steps_join : StepsJoin
+steps_join state job left nonce nonces counts more allowed answer = by_job state.jobs.job allowed answer
+  where
+    by_job : (running : Option Job) → AllowedOn job running counts (λ one. AllowedUnits one.kind one.tokens (nonce ∷ []) (work_of state one) counts)
+        → (on_job state job running (λ one. stepped_by state one (nonce ∷ []) counts)).reply ≡ r.Stepped left
+        → on_job state job running (λ one. stepped_by state one (nonce ∷ nonces) (counts ++ more))
+        ≡ then_step (on_job state job running (λ one. stepped_by state one (nonce ∷ []) counts))
+        (next (on_job state job running (λ one. stepped_by state one (nonce ∷ []) counts)).state (c.Step job (length nonces)) nonces more)
+    by_job None allowed answer = absurd (cc)
+    by_job (Some one) allowed answer =
+        let asks : (Job → Done) → Done = λ go. on_job state job (Some one) go in
+        let first_go : Job → Done = λ it. stepped_by state it (nonce ∷ []) counts in
+        let all_go : Job → Done = λ it. stepped_by state it (nonce ∷ nonces) (counts ++ more) in
+        let refused : Done = answered state (r.NoJob job one.number) in
+        elim (cases_Bool (one.number == job)) [
+          | inl hit ↦
+              let first : asks first_go ≡ first_go one = cond-true (one.number == job) (first_go one) refused hit in
+              let all : asks all_go ≡ all_go one = cond-true (one.number == job) (all_go one) refused hit in
+              let due = MatchBool-at_true (AllowedUnits one.kind one.tokens (nonce ∷ []) (work_of state one) counts) (counts ≡ []) hit allowed in
+              let both = joined state one nonce nonces counts more left due (sym (ap (λ (d : Done). d.reply) first) ∙ answer) in
+              let middle = between state one nonce nonces counts more in
+              let runs = running_on state one nonce nonces counts more in
+              let second : next middle (c.Step job (length nonces)) nonces more ≡ stepped_by middle runs nonces more =
+              cond-true (one.number == job) (stepped_by middle runs nonces more) (answered middle (r.NoJob job one.number)) hit in
+              let is_first = first ∙ both.0 in
+              all ∙ both.1
+              ∙ ap (then_step (First state one nonce nonces counts more)) (sym second)
+              ∙ ap (λ (d : Done). then_step d (next d.state (c.Step job (length nonces)) nonces more)) (sym is_first)
+          | inr miss ↦
+              let other : asks first_go ≡ refused = cond-false (one.number == job) (first_go one) refused miss in
+              let said : r.NoJob job one.number ≡ r.Stepped left = sym (ap (λ (d : Done). d.reply) other) ∙ answer in
+              absurd (cc)
+        ]

@@ -17,7 +17,9 @@ use Rattle.qe_indexed.specs.Parts.{IsWithin, most_blocks}
 use Rattle.qe_indexed.specs.Spelling.{written, IsLaidOut}
 use Rattle.qe_indexed.proofs.BlockLemmas.{tag_in-made}
 use Rattle.qe_indexed.proofs.ReadingLemmas.{parts_are}
+use Rattle.qe_command.specs.declared.cells.SentCell.TheVariants as sent
 use Rattle.qe_command.specs.Items.{items_of}
+use Rattle.qe_command.specs.Nonces.{cell_nonces}
 use Rattle.qe_protocol.specs.State.{Index}
 use Rattle.qe_protocol.specs.Counting.{next_number}
 use Rattle.qe_protocol.specs.Indexing.{nonce_at, indexed, block_at, index_items, indexed_value, AllowedItems, value_tags}
@@ -90,12 +92,23 @@ few : (payload : InsertPayload) (range : Bool) → is_some payload.g ≡ range �
 few payload true is is_few = is_few.most
 few payload false is is_few = omega (arith, is_few.one is)
 
-pub stores_tags : StoresTags
-stores_tags field index payload nonces counts key items factor long enough allowed =
+all_made : (field : ℕ) (index : Index) (payload : InsertPayload) (nonces : List (List ℕ)) (counts : List Count) → nat_abs payload.k < 2 ^ 64 → AreLong nonces
+    → cell_nonces (sent.Payload payload) ≤ length nonces → AllowedItems field index (items_of payload) counts
+    → Made field (nat_abs payload.k) index (items_of payload) counts (index_items field (nat_abs payload.k) index (items_of payload) (drop 1 nonces) counts).blocks
+all_made field index payload nonces counts factor long enough allowed =
+    made field (nat_abs payload.k) index (items_of payload) (drop 1 nonces) counts factor (long_behind nonces 1 long)
+    (length-behind nonces 1 (2 * length (items_of payload)) (omega (arith, enough))) allowed
+
+-- a value that is indexed is laid out
+pub index_laid : (field : ℕ) (index : Index) (payload : InsertPayload) (nonces : List (List ℕ)) (counts : List Count)
+    → length payload.u ≡ 16 → FewItems payload → nat_abs payload.k < 2 ^ 64 → AreLong nonces → cell_nonces (sent.Payload payload) ≤ length nonces
+    → AllowedItems field index (items_of payload) counts
+    → let value = indexed_value payload nonces (index_items field (nat_abs payload.k) index (items_of payload) (drop 1 nonces) counts).blocks in
+    IsLaidOut value (written value)
+index_laid field index payload nonces counts key items factor long enough allowed =
     let done = index_items field (nat_abs payload.k) index (items_of payload) (drop 1 nonces) counts in
     let value = indexed_value payload nonces done.blocks in
-    let made_all = made field (nat_abs payload.k) index (items_of payload) (drop 1 nonces) counts factor (long_behind nonces 1 long)
-    (length-behind nonces 1 (2 * length (items_of payload)) (omega (arith, enough))) allowed in
+    let made_all = all_made field index payload nonces counts factor long enough allowed in
     let first = long_at nonces 0 long (omega (arith, enough)) in
     let server_long = length-append (nonce_at nonces 0) (counter_mode payload.e (nonce_at nonces 0) payload.v) in
     let within : IsWithin value.range value.server_value value.blocks = record {
@@ -103,5 +116,10 @@ stores_tags field index payload nonces counts key items factor long enough allow
       some = omega (arith, made_all.many, items.some);
       few = subst (λ n. n ≤ most_blocks value.range) (sym made_all.many) (few payload (is_some payload.g) refl items);
     } in
-    let laid : IsLaidOut value (written value) = record { within = within; key_id_long = key; blocks_long = all_long done.blocks made_all.each; bytes_are = refl } in
-    ap value_tags (parts_are value (written value) laid) ∙ made_all.tags
+    record { within = within; key_id_long = key; blocks_long = all_long done.blocks made_all.each; bytes_are = refl }
+
+pub stores_tags : StoresTags
+stores_tags field index payload nonces counts key items factor long enough allowed =
+    let value = indexed_value payload nonces (index_items field (nat_abs payload.k) index (items_of payload) (drop 1 nonces) counts).blocks in
+    ap value_tags (parts_are value (written value) (index_laid field index payload nonces counts key items factor long enough allowed))
+    ∙ (all_made field index payload nonces counts factor long enough allowed).tags

@@ -1,6 +1,6 @@
 -- Units one after another.
-use Rattle.std.proofs.Common.{◌≡◌, ℕ, suc, ◌-◌, List, [], ◌∷◌, ◌++◌, length, true, false, None, Some, refl, sym, ap, ◌∙◌, subst, arith, if◌then◌else◌}
-use Rattle.std.proofs.lemmas.Bool.{cond_both, MatchBool-at_true, MatchBool-at_false}
+use Rattle.std.proofs.Common.{◌≡◌, ℕ, suc, ◌-◌, List, [], ◌∷◌, ◌++◌, length, true, false, None, Some, refl, sym, ap, ◌∙◌, subst, arith, if◌then◌else◌, inl, inr}
+use Rattle.std.proofs.lemmas.Bool.{cases_Bool, cond_both, cond-true, cond-false, MatchBool-at_true, MatchBool-at_false}
 use Rattle.std.proofs.lemmas.List.{append-nil, append_assoc}
 use Rattle.qe_base.specs.declared.maintenance.Count.{Count}
 use Rattle.qe_base.specs.declared.maintenance.JobKind.{JobKind}
@@ -9,7 +9,7 @@ use Rattle.qe_tokens.specs.declared.words.FieldToken.{FieldToken}
 use Rattle.qe_ecoc.specs.declared.rows.Entry.{Entry}
 use Rattle.qe_esc.specs.Pairs.{null_pair}
 use Rattle.qe_protocol.specs.Units.{Work, UnitsDone, units, unit_then, stopped, with_opened, is_mismatch, row_done, doomed_done, captured_done, AllowedUnits, AllowedUnit, anchors_after}
-use Rattle.qe_protocol.specs.UnitLaws.{opened_before, IsFirst, work_left, WaitsForRows}
+use Rattle.qe_protocol.specs.UnitLaws.{opened_before, IsFirst, TakesFirst, UnitsTake, work_left, WaitsForRows}
 
 -- by what is first: a row that doesn't mismatch, one that does, a doomed identifier, a captured one, or nothing
 module _ (kind : JobKind) (tokens : List FieldToken) where
@@ -199,3 +199,68 @@ module _ (tokens : List FieldToken) where
   compacts_all [] work counts allowed none = omega arith
   compacts_all (nonce ∷ nonces) work counts allowed none =
       done_by nonce nonces work.aside work.doomed work.captured work counts refl refl refl (λ after left is. compacts_all nonces after left is) allowed none
+
+-- what is first
+row_takes : (kind : JobKind) (tokens : List FieldToken) (nonce : List ℕ) (work : Work) (row : Entry) (rest : List Entry) (doomed captured : List (List ℕ)) (count : Count)
+    → work.doomed ≡ doomed → work.captured ≡ captured → TakesFirst work (row ∷ rest) doomed captured (row_done kind tokens nonce work row rest count)
+row_takes Compact tokens nonce work row rest doomed captured count d x = (refl, (([], d ∙ sym (append-nil doomed)), x))
+row_takes Cleanup tokens nonce work row rest doomed captured count d x =
+    let more = anchors_after count.token (null_pair work.rows count.token).0 count.hop in
+    (refl, ((more, ap (λ (ids : List (List ℕ)). ids ++ more) d), x))
+
+module _ (kind : JobKind) (tokens : List FieldToken) (nonce : List ℕ) where
+  takes_by : (rows : List Entry) (doomed captured : List (List ℕ)) (work : Work) (counts : List Count) → work.aside ≡ rows → work.doomed ≡ doomed → work.captured ≡ captured
+      → AllowedUnit (AllowedUnits kind tokens []) kind tokens nonce rows doomed captured work counts
+      → (unit_then (units kind tokens []) kind tokens nonce rows doomed captured work counts).mismatch ≡ None
+      → TakesFirst work rows doomed captured (unit_then (units kind tokens []) kind tokens nonce rows doomed captured work counts).work
+  takes_by (row ∷ rest) doomed captured work [] is d x allowed none = absurd allowed
+  takes_by (row ∷ rest) doomed captured work (count ∷ counts) is d x allowed none =
+      cond_both (is_mismatch work.rows count) (stopped work (Some row.field) (row ∷ []) counts)
+      (with_opened row (stopped (row_done kind tokens nonce work row rest count) None [] counts))
+      (λ done. done.mismatch ≡ None → TakesFirst work (row ∷ rest) doomed captured done.work)
+      (λ _ (other : Some row.field ≡ None). absurd (cc)) (λ _ _. row_takes kind tokens nonce work row rest doomed captured count d x) none
+  takes_by [] (id ∷ rest) captured work counts is d x allowed none = (record { rows = refl; aside = refl; leaves = refl }, (refl, x))
+  takes_by [] [] (id ∷ rest) work counts is d x allowed none = (record { rows = refl; aside = refl; leaves = refl }, (d, refl))
+  takes_by [] [] [] work counts is d x allowed none = refl
+
+pub units_take : UnitsTake
+units_take kind tokens nonce work counts allowed none =
+    takes_by kind tokens nonce work.aside work.doomed work.captured work counts refl refl refl allowed none
+
+-- a unit with its own counts, and then the others with theirs
+module _ (kind : JobKind) (tokens : List FieldToken) (nonce : List ℕ) (nonces : List (List ℕ)) (more : List Count) where
+  abbrev Alone : List Entry → List (List ℕ) → List (List ℕ) → Work → List Count → UnitsDone
+  Alone rows doomed captured work counts = unit_then (units kind tokens []) kind tokens nonce rows doomed captured work counts
+
+  abbrev Onward : UnitsDone → UnitsDone
+  Onward one = opened_before one.opened (units kind tokens nonces one.work more)
+
+  onward_by : (rows : List Entry) (doomed captured : List (List ℕ)) (work : Work) (counts : List Count) → work.aside ≡ rows → work.doomed ≡ doomed → work.captured ≡ captured
+      → AllowedUnit (AllowedUnits kind tokens []) kind tokens nonce rows doomed captured work counts → (Alone rows doomed captured work counts).mismatch ≡ None
+      → unit_then (units kind tokens nonces) kind tokens nonce rows doomed captured work (counts ++ more) ≡ Onward (Alone rows doomed captured work counts)
+  onward_by (row ∷ rest) doomed captured work [] is d x allowed none = absurd allowed
+  onward_by (row ∷ rest) doomed captured work (count ∷ counts) is d x allowed none =
+      let after = row_done kind tokens nonce work row rest count in
+      let bad : UnitsDone = stopped work (Some row.field) (row ∷ []) counts in
+      let good : UnitsDone = with_opened row (stopped after None [] counts) in
+      elim (cases_Bool (is_mismatch work.rows count)) [
+        | inl hit ↦
+            let one : Alone (row ∷ rest) doomed captured work (count ∷ counts) ≡ bad = cond-true (is_mismatch work.rows count) bad good hit in
+            let wrong : Some row.field ≡ None = sym (ap (λ (done : UnitsDone). done.mismatch) one) ∙ none in
+            absurd (cc)
+        | inr miss ↦
+            let one : Alone (row ∷ rest) doomed captured work (count ∷ counts) ≡ good = cond-false (is_mismatch work.rows count) bad good miss in
+            let all = cond-false (is_mismatch work.rows count) (stopped work (Some row.field) (row ∷ []) (counts ++ more)) (with_opened row (units kind tokens nonces after (counts ++ more))) miss in
+            let spent : counts ≡ [] = MatchBool-at_false (counts ≡ []) (AllowedUnits kind tokens [] after counts) miss allowed.1 in
+            all ∙ ap (λ (left : List Count). with_opened row (units kind tokens nonces after (left ++ more))) spent ∙ ap Onward (sym one)
+      ]
+  onward_by [] (id ∷ rest) captured work counts is d x allowed none = ap (λ (left : List Count). units kind tokens nonces (doomed_done work id rest) (left ++ more)) allowed
+  onward_by [] [] (id ∷ rest) work counts is d x allowed none = ap (λ (left : List Count). units kind tokens nonces (captured_done work id rest) (left ++ more)) allowed
+  onward_by [] [] [] work counts is d x allowed none = ap (λ (left : List Count). stopped work None [] (left ++ more)) allowed ∙ sym (idle kind tokens nonces work is d x more)
+
+pub one_and_more : (kind : JobKind) (tokens : List FieldToken) (nonce : List ℕ) (nonces : List (List ℕ)) (work : Work) (counts more : List Count)
+    → AllowedUnits kind tokens (nonce ∷ []) work counts → (units kind tokens (nonce ∷ []) work counts).mismatch ≡ None
+    → units kind tokens (nonce ∷ nonces) work (counts ++ more)
+    ≡ opened_before (units kind tokens (nonce ∷ []) work counts).opened (units kind tokens nonces (units kind tokens (nonce ∷ []) work counts).work more)
+one_and_more kind tokens nonce nonces work counts more allowed none =
+    onward_by kind tokens nonce nonces more work.aside work.doomed work.captured work counts refl refl refl allowed none

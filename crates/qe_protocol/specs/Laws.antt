@@ -1,7 +1,10 @@
 -- What holds of all commands.
-use Rattle.std.specs.Prelude.{◌≡◌, ℕ, ◌+◌, ◌-◌, ◌*◌, ◌==◌, List, [], ◌∷◌, ◌++◌, map, length, nat_abs, Bool, true, false, None, ◌≤◌, ◌<◌, ◌^◌, bytes_eq, Option, Some, is_some, slice_get, slice_set}
+use Rattle.std.specs.Prelude.{◌≡◌, ℕ, ◌+◌, ◌-◌, ◌*◌, ◌==◌, List, [], ◌∷◌, ◌++◌, map, length, nat_abs, Bool, true, false, None, ◌≤◌, ◌<◌, ◌^◌, ◌↔◌, bytes_eq, Option, Some, is_some, slice_get, slice_set}
 use Rattle.std.specs.List.{list_any, AllByRecursion}
+use Rattle.std.specs.List.Sorted.{IsStrictlySortedBy}
 use Rattle.std.specs.FinMap.{get}
+use Rattle.std.specs.Cmp.Lexicographic.{slice_cmp}
+use Rattle.std.specs.Ordering.{nat_cmp}
 use Rattle.qe_base.specs.declared.maintenance.Count.{Count}
 use Rattle.qe_tokens.specs.Tokens.{document_tag_of, edc_twice_of}
 use Rattle.qe_parts.specs.declared.edges.EdgeTokens.{EdgeTokens}
@@ -17,10 +20,14 @@ use Rattle.qe_find.specs.declared.equal.FindEqual.{FindEqual}
 use Rattle.qe_find.specs.declared.range.FindRange.{FindRange}
 use Rattle.qe_tokens.specs.declared.words.FieldToken.{FieldToken}
 use Rattle.qe_value.specs.declared.value.Value.{Value}
+use Rattle.qe_value.specs.Views.{plain}
+use Rattle.qe_plain.specs.Collection.{same_value}
+use Rattle.qe_plain.specs.Laws.{IsWritable}
 use Rattle.qe_store.specs.declared.stored.Stored.{Stored}
 use Rattle.qe_command.specs.declared.command.Command.{Command}
 use Rattle.qe_command.specs.declared.command.Command.TheVariants as c
 use Rattle.qe_command.specs.declared.filter.SentTerm.TheVariants as t
+use Rattle.qe_command_fits.specs.OfSchema.{IsIdValue}
 use Rattle.qe_protocol.specs.declared.reply.Reply.{Reply}
 use Rattle.qe_protocol.specs.declared.reply.Reply.TheVariants as r
 use Rattle.qe_protocol.specs.State.{Index, Job, Jobs, State, Done, left_of}
@@ -57,8 +64,8 @@ changes_nothing _ = false
 abbrev pub ChangesNothing : State → Command → Done → Type 0
 ChangesNothing state command done = changes_nothing done.reply ≡ true → done.state ≡ state
 
--- what a step leaves that met a mismatch: no job runs, the rows that it handled aren't aside any more, and the first of those
--- that are is of that field
+-- what a step leaves that met a mismatch: no job runs, the rows that it handled aren't aside any more, the first of those
+-- that are is of that field, and what it doomed comes behind what was doomed
 pub record IsParkedAt (before after : State) (field : ℕ) : Type 0 where
   pub docs : after.docs ≡ before.docs
   pub ecoc : after.index.ecoc ≡ before.index.ecoc
@@ -69,6 +76,8 @@ pub record IsParkedAt (before after : State) (field : ℕ) : Type 0 where
   pub aside : before.jobs.aside ≡ handled ++ after.jobs.aside
   pub first : IsFirst field after.jobs.aside
   pub captured : after.jobs.captured ≡ before.jobs.captured
+  pub more : List (List ℕ)
+  pub doomed : after.jobs.doomed ≡ before.jobs.doomed ++ more
 
 abbrev pub ParksAtMismatch : State → Command → Done → Type 0
 ParksAtMismatch state command done = (field : ℕ) → done.reply ≡ r.TokenMismatch field → IsParkedAt state done.state field
@@ -131,6 +140,15 @@ abbrev pub AreApart : List Value → Type 0
 AreApart [] = Unit {0}
 AreApart (id ∷ ids) = (list_any (same_id id) ids ≡ false) × AreApart ids
 
+-- of two ids, it says the same that they are equal, as the store compares them, and that they have one type and the same bytes, as the
+-- plain collection does
+pub record AgreesOn (a b : Value) : Type 0 where
+  pub equal : (same_id a b ≡ true) ↔ (a ≡ b)
+  pub value : IsWritable (plain a) → IsWritable (plain b) → same_id a b ≡ same_value (plain a) (plain b)
+
+abbrev pub IdsAgree : Type 0
+IdsAgree = (a b : Value) → IsIdValue a → IsIdValue b → AgreesOn a b
+
 abbrev pub KeepsApart : State → Command → Done → Type 0
 KeepsApart state command done = AreApart (ids_of state.docs) → AreApart (ids_of done.state.docs)
 
@@ -166,6 +184,15 @@ abbrev pub ResumesParked : Type 0
 ResumesParked = (kind : JobKind) (tokens : List FieldToken) (state : State) → is_parked state.jobs ≡ true
     → LeavesLists state (begin_job kind tokens state).state
 
+-- a job that begins has the kind and the tokens that were sent, and no leaves, whether something was parked or not
+abbrev pub IsStarted : JobKind → List FieldToken → ℕ → Reply → Option Job → Type 0
+IsStarted kind tokens last (r.Begun number) job = job ≡ Some (record { number = last + 1; kind = kind; tokens = tokens; leaves = 0 })
+IsStarted kind tokens last _ job = Unit {0}
+
+abbrev pub StartsAsSent : Type 0
+StartsAsSent = (state : State) (kind : JobKind) (tokens : List FieldToken) (nonces : List (List ℕ)) (counts : List Count)
+    → let done = next state (c.Begin kind tokens) nonces counts in IsStarted kind tokens state.jobs.last done.reply done.state.jobs.job
+
 -- nothing but the job changes
 pub record LeavesAll (before after : State) : Type 0 where
   pub docs : after.docs ≡ before.docs
@@ -173,10 +200,24 @@ pub record LeavesAll (before after : State) : Type 0 where
   pub last : after.jobs.last ≡ before.jobs.last
   pub current : after.current ≡ before.current
 
+-- the leaves that a job has handled
+abbrev pub HasLeaves : ℕ → Option Job → Type 0
+HasLeaves leaves None = ⊥
+HasLeaves leaves (Some job) = leaves ≡ job.leaves
+
+-- where the answer says that the job ended, none runs
+abbrev pub IsStopped : Option Job → Reply → Option Job → Type 0
+IsStopped before (r.Ended leaves) after = HasLeaves leaves before × (after ≡ None)
+IsStopped before r.Abandoned after = after ≡ None
+IsStopped before _ after = Unit {0}
+
+abbrev pub StopsAlone : State → Done → Type 0
+StopsAlone state done = LeavesAll state done.state × IsStopped state.jobs.job done.reply done.state.jobs.job
+
 -- an end and an abandon
 abbrev pub EndsAlone : Type 0
 EndsAlone = (state : State) (job : ℕ) (nonces : List (List ℕ)) (counts : List Count)
-    → LeavesAll state (next state (c.End job) nonces counts).state × LeavesAll state (next state (c.Abandon job) nonces counts).state
+    → StopsAlone state (next state (c.End job) nonces counts) × StopsAlone state (next state (c.Abandon job) nonces counts)
 
 -- a filter's term is searched under each factor from 0 to the greatest, a range's edge by edge, and by no other search
 pub record SearchesAllFactors : Type 0 where
@@ -213,13 +254,16 @@ StoresTags = (field : ℕ) (index : Index) (payload : InsertPayload) (nonces : L
     → AllowedItems field index (items_of payload) counts
     → cell_tags (index_cell field index (sent.Payload payload) nonces counts).cell ≡ item_tags field index (items_of payload) counts
 
--- a begin where nothing is parked takes all rows for compaction aside, captures the positions and nothing else, and leaves
--- documents, rows and contentions; its job has the kind and the tokens that were sent, and has handled no leaves
+-- a begin where nothing is parked takes all rows for compaction aside, captures the positions and nothing else, each once and in
+-- rising order, and leaves documents, rows and contentions; its job has the kind and the tokens that were sent, and has
+-- handled no leaves
 pub record TakesAll (kind : JobKind) (tokens : List FieldToken) (before after : State) : Type 0 where
   pub aside : after.jobs.aside ≡ before.index.ecoc
   pub ecoc : after.index.ecoc ≡ []
   pub captured : (id : List ℕ) → get before.index.rows id ≡ Some None → list_any (bytes_eq id) after.jobs.captured ≡ true
   pub nothing_else : (id : List ℕ) → list_any (bytes_eq id) after.jobs.captured ≡ true → get before.index.rows id ≡ Some None
+  pub rising : IsStrictlySortedBy (slice_cmp nat_cmp) after.jobs.captured
+  pub doomed : after.jobs.doomed ≡ before.jobs.doomed
   pub rows : after.index.rows ≡ before.index.rows
   pub docs : after.docs ≡ before.docs
   pub current : after.current ≡ before.current
@@ -237,6 +281,17 @@ ContentionsAfter _ _ before after = after ≡ before
 
 abbrev pub RaisesAlone : State → Command → Done → Type 0
 RaisesAlone state command done = ContentionsAfter command done.reply state.current done.state.current
+
+-- a step, and then another: the state and the answer are those of the second, and both open rows
+abbrev pub then_step : Done → Done → Done
+then_step one other = record { state = other.state; reply = other.reply; opened = one.opened ++ other.opened }
+
+-- a step of limit n + 1 is a step of limit 1 and then one of limit n, each with its own counts, as long as the first doesn't mismatch
+abbrev pub StepsJoin : Type 0
+StepsJoin = (state : State) (job left : ℕ) (nonce : List ℕ) (nonces : List (List ℕ)) (counts more : List Count)
+    → let one = next state (c.Step job 1) (nonce ∷ []) counts in
+    AllowedStep state job (nonce ∷ []) counts → one.reply ≡ r.Stepped left
+    → next state (c.Step job (length nonces + 1)) (nonce ∷ nonces) (counts ++ more) ≡ then_step one (next one.state (c.Step job (length nonces)) nonces more)
 
 -- a step of a compaction does a unit for each of its nonces, or all that are left, as long as none mismatches
 abbrev pub StepsOn : Type 0

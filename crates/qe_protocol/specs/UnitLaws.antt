@@ -1,9 +1,10 @@
 -- What holds of steps, of their units, and of what they write.
-use Rattle.std.specs.Prelude.{◌≡◌, ℕ, ◌+◌, ◌-◌, ◌*◌, ◌%◌, ◌^◌, ◌<◌, ◌≤◌, List, [], ◌∷◌, ◌++◌, length, true, false, None, Some}
-use Rattle.std.specs.FinMap.{get}
+use Rattle.std.specs.Prelude.{◌≡◌, ℕ, ◌+◌, ◌-◌, ◌*◌, ◌%◌, ◌^◌, ◌<◌, ◌≤◌, List, [], ◌∷◌, ◌++◌, length, true, false, None, Some, bytes_eq}
+use Rattle.std.specs.List.{list_any}
+use Rattle.std.specs.FinMap.{get, remove}
 use Rattle.qe_base.specs.declared.maintenance.Count.{Count}
 use Rattle.qe_base.specs.declared.maintenance.JobKind.{JobKind}
-use Rattle.qe_base.specs.declared.maintenance.JobKind.TheVariants.{Compact}
+use Rattle.qe_base.specs.declared.maintenance.JobKind.TheVariants.{Compact, Cleanup}
 use Rattle.qe_tokens.specs.declared.words.FieldToken.{FieldToken}
 use Rattle.qe_esc.specs.Rows.{Rows, has}
 use Rattle.qe_esc.specs.Identifiers.{id_of, row_after}
@@ -11,7 +12,7 @@ use Rattle.qe_esc.specs.Pairs.{pair_of, null_pair, base_of}
 use Rattle.qe_esc.specs.declared.key.RowKind.TheVariants.{Anchor, Position}
 use Rattle.qe_ecoc.specs.declared.rows.Entry.{Entry}
 use Rattle.qe_protocol.specs.Counting.{IsTrue, counted}
-use Rattle.qe_protocol.specs.Units.{Work, UnitsDone, units, AllowedUnits, compacted, cleaned, last_anchor}
+use Rattle.qe_protocol.specs.Units.{Work, UnitsDone, units, AllowedUnits, compacted, cleaned, last_anchor, leaf_count, opened_row}
 
 abbrev pub OfUnits : (JobKind → List FieldToken → List (List ℕ) → Work → List Count → UnitsDone → Type 0) → Type 0
 OfUnits Holds = (kind : JobKind) (tokens : List FieldToken) (nonces : List (List ℕ)) (work : Work) (counts : List Count)
@@ -38,6 +39,50 @@ KeepsMismatch kind tokens nonces work counts done = (field : ℕ) → done.misma
 -- there is a count for each row that is opened, and no other
 abbrev pub CountsOpened : JobKind → List FieldToken → List (List ℕ) → Work → List Count → UnitsDone → Type 0
 CountsOpened kind tokens nonces work counts done = AllowedUnits kind tokens nonces work counts → length counts ≡ length done.opened
+
+-- an identifier is taken out
+pub record TakesOut (before after : Work) (id : List ℕ) : Type 0 where
+  pub rows : after.rows ≡ remove before.rows id
+  pub aside : after.aside ≡ before.aside
+  pub leaves : after.leaves ≡ before.leaves
+
+-- a unit, by what is first: the first row aside is dropped, and what is doomed comes behind; without a row the first doomed identifier
+-- is taken out, or else the first captured one; without any of them nothing changes
+abbrev pub TakesFirst : Work → List Entry → List (List ℕ) → List (List ℕ) → Work → Type 0
+TakesFirst before (row ∷ rest) doomed captured after =
+    (after.aside ≡ rest) × (((more : List (List ℕ)) × (after.doomed ≡ doomed ++ more)) × (after.captured ≡ captured))
+TakesFirst before [] (id ∷ rest) captured after = TakesOut before after id × ((after.doomed ≡ rest) × (after.captured ≡ captured))
+TakesFirst before [] [] (id ∷ rest) after = TakesOut before after id × ((after.doomed ≡ []) × (after.captured ≡ rest))
+TakesFirst before [] [] [] after = after ≡ before
+
+-- each unit does so, of a compaction and of a cleanup, unless it mismatches
+abbrev pub UnitsTake : Type 0
+UnitsTake = (kind : JobKind) (tokens : List FieldToken) (nonce : List ℕ) (work : Work) (counts : List Count)
+    → AllowedUnits kind tokens (nonce ∷ []) work counts → (units kind tokens (nonce ∷ []) work counts).mismatch ≡ None
+    → TakesFirst work work.aside work.doomed work.captured (units kind tokens (nonce ∷ []) work counts).work
+
+-- identifiers of the anchors behind a number, as many as were counted
+pub record AreAnchors (token : List ℕ) (from hop : ℕ) (doomed : List (List ℕ)) : Type 0 where
+  pub many : length doomed ≡ hop
+  pub each : (i : ℕ) → 1 ≤ i → i ≤ hop → list_any (bytes_eq (id_of Anchor token ((from + i) % 2 ^ 64))) doomed ≡ true
+
+-- a compaction writes the next anchor and dooms nothing; a cleanup writes the null anchor, and dooms the anchors that it counts
+-- and the null anchor before it didn't
+abbrev pub WritesRow : JobKind → Work → Count → List ℕ → Work → Type 0
+WritesRow Compact before count nonce after = (after.rows ≡ compacted before.rows count nonce) × (after.doomed ≡ before.doomed)
+WritesRow Cleanup before count nonce after =
+    (after.rows ≡ cleaned before.rows count nonce)
+    × ((more : List (List ℕ)) × ((after.doomed ≡ before.doomed ++ more) × AreAnchors count.token (null_pair before.rows count.token).0 count.hop more))
+
+pub record HandlesRow (kind : JobKind) (tokens : List FieldToken) (before : Work) (row : Entry) (count : Count) (nonce : List ℕ) (after : Work) : Type 0 where
+  pub writes : WritesRow kind before count nonce after
+  pub leaves : after.leaves ≡ before.leaves + leaf_count (opened_row tokens row).leaf
+
+-- a unit handles the first row aside by what its search found, unless it mismatches
+abbrev pub UnitsWrite : Type 0
+UnitsWrite = (kind : JobKind) (tokens : List FieldToken) (nonce : List ℕ) (work : Work) (row : Entry) (rest : List Entry) (count : Count)
+    → work.aside ≡ row ∷ rest → (units kind tokens (nonce ∷ []) work (count ∷ [])).mismatch ≡ None
+    → HandlesRow kind tokens work row count nonce (units kind tokens (nonce ∷ []) work (count ∷ [])).work
 
 abbrev pub work_left : Work → ℕ
 work_left work = length work.aside + length work.doomed + length work.captured

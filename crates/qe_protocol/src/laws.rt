@@ -3,8 +3,8 @@
 ghost use Rattle.std.specs.Prelude.{List};
 ghost use Rattle.qe_field.specs.declared.field.Field.{Field};
 ghost use Rattle.qe_protocol.specs.Journal.{GrowsByEntries};
-ghost use Rattle.qe_protocol.specs.Laws.{OfEach, ChangesNothing, KeepsDocuments, ChangesOneAtMost, ParksAtMismatch, SaysWhatIsLeft, KeepsApart, KeepsTags, CountsJobs, ResumesParked, EndsAlone, SearchesAllFactors, StoresTags, FreshTakesAll, RaisesAlone, StepsOn};
-ghost use Rattle.qe_protocol.specs.UnitLaws.{OfUnits, GoesOn, KeepsMismatch, CountsOpened, CompactsAll, RowsGoFirst, OneTrueCount, WritesCounts};
+ghost use Rattle.qe_protocol.specs.Laws.{OfEach, ChangesNothing, KeepsDocuments, ChangesOneAtMost, ParksAtMismatch, SaysWhatIsLeft, KeepsApart, IdsAgree, KeepsTags, CountsJobs, ResumesParked, EndsAlone, SearchesAllFactors, StoresTags, FreshTakesAll, RaisesAlone, StartsAsSent, StepsJoin, StepsOn};
+ghost use Rattle.qe_protocol.specs.UnitLaws.{OfUnits, UnitsTake, UnitsWrite, GoesOn, KeepsMismatch, CountsOpened, CompactsAll, RowsGoFirst, OneTrueCount, WritesCounts};
 
 /// A reply that says that nothing was changed comes where nothing was: of refused commands, of an update and a
 /// delete without a match, and of a find.
@@ -27,6 +27,12 @@ pub fn ids_stay_distinct()
     ensures { OfEach KeepsApart }
 {}
 
+/// Two ids are the same where they are equal, which the store compares, and where their types and bytes are the same, which the
+/// plain collection compares.
+pub fn ids_are_the_same_where_they_are_equal()
+    ensures { IdsAgree }
+{}
+
 /// Where each document's tags are those of its cells' blocks, they are afterwards.
 pub fn tags_are_those_of_the_blocks()
     ensures { OfEach KeepsTags }
@@ -42,7 +48,13 @@ pub fn a_resumed_begin_leaves_all_lists()
     ensures { ResumesParked }
 {}
 
-/// An end and an abandon change no document, no row and no list.
+/// A job that begins has the kind and the tokens that were sent, and no leaves.
+pub fn a_job_begins_as_it_was_sent()
+    ensures { StartsAsSent }
+{}
+
+/// An end and an abandon change no document, no row and no list; where they are answered so, no job runs, and an end's answer
+/// has the job's leaves.
 pub fn an_end_changes_no_row()
     ensures { EndsAlone }
 {}
@@ -54,11 +66,24 @@ pub fn all_factors_are_searched()
 
 /// A step of limit n + 1 is a step of limit 1 and then one of limit n, as long as no unit mismatches.
 pub fn a_step_is_its_units()
-    ensures { GoesOn }
+    ensures units { GoesOn }
+    ensures steps { StepsJoin }
+{}
+
+/// A unit drops the first row aside, or takes out the first doomed identifier, or the first captured one, in a compaction as
+/// in a cleanup.
+pub fn a_unit_takes_what_is_first()
+    ensures { UnitsTake }
+{}
+
+/// A unit on a row writes the anchor of what its search counted, and counts the row's leaf; a cleanup dooms as many anchors as were
+/// counted, those behind its null anchor before.
+pub fn a_unit_writes_what_was_counted()
+    ensures { UnitsWrite }
 {}
 
 /// After a mismatch no job runs; of the rows aside those that the step handled are gone, and the first of those that stay
-/// is the mismatched one.
+/// is the mismatched one. What was doomed stays so.
 pub fn a_mismatch_parks_what_is_left()
     ensures { OfEach ParksAtMismatch }
 {}
@@ -114,8 +139,8 @@ pub fn an_indexed_value_has_its_tags()
     ensures { StoresTags }
 {}
 
-/// A begin takes all rows for compaction aside, and captures the identifiers of all positions and no others, where nothing
-/// is parked; rows and documents stay.
+/// A begin takes all rows for compaction aside, and captures the identifiers of all positions and no others, in rising
+/// order, where nothing is parked; rows and documents stay.
 pub fn a_fresh_begin_takes_all()
     ensures { FreshTakesAll }
 {}
