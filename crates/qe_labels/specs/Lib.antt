@@ -1,0 +1,6 @@
+pub mod Under
+pub mod Numbers
+pub mod Tags
+pub mod Listed
+pub mod Clashes
+pub mod Laws

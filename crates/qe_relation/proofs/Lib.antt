@@ -1,0 +1,13 @@
+pub mod RunLemmas
+pub mod PlaceLemmas
+pub mod ShapeLemmas
+pub mod FreeLemmas
+pub mod ChangeLemmas
+pub mod RowUnitLemmas
+pub mod UnitKeepLemmas
+pub mod IndexLemmas
+pub mod ItemLemmas
+pub mod StepKeepLemmas
+pub mod JobKeepLemmas
+pub mod LawLemmas
+pub mod OneLemmas

@@ -1,0 +1,5 @@
+pub mod Shape
+pub mod Stands
+pub mod Items
+pub mod Steps
+pub mod Laws
