@@ -1,0 +1,15 @@
+pub mod Fields
+pub mod Items
+pub mod Words
+pub mod Callers
+pub mod Meant
+pub mod Payloads
+pub mod Encodes
+pub mod Draws
+pub mod Sending
+pub mod Decodes
+pub mod Replies
+pub mod Counted
+pub mod Kept
+pub mod Encoded
+pub mod Laws

@@ -1,0 +1,15 @@
+pub mod ZipLemmas
+pub mod WordLemmas
+pub mod TagLemmas
+pub mod IdLemmas
+pub mod MatchLemmas
+pub mod CellLemmas
+pub mod CellsLemmas
+pub mod DocumentLemmas
+pub mod NumberLemmas
+pub mod ActLemmas
+pub mod LimitLemmas
+pub mod ServeLemmas
+pub mod ReadLemmas
+pub mod LearnLemmas
+pub mod CauseLemmas
