@@ -1,0 +1,9 @@
+pub mod StrayLemmas
+pub mod MaintenanceLemmas
+pub mod JournalLemmas
+pub mod CommandLemmas
+pub mod EntryLemmas
+pub mod TheoremLemmas
+pub mod OneCommandLemmas
+pub mod OneEntryLemmas
+pub mod OneAllLemmas
