@@ -1,0 +1,5 @@
+pub mod Plans
+pub mod Items
+pub mod Cells
+pub mod Searches
+pub mod Merge
