@@ -40,6 +40,7 @@ impl<'a> Lines<'a> {
     /// The next line without its line feed, and how many lines came before it.
     pub fn next_line(&mut self) -> Option<(u64, &'a [u8])>
         ensures next { MatchOption result (self.old ≡ []) (λ line. self.old ≡ (line.0, line.1.now) ∷ self.new) }
+        ensures over { MatchOption result (self.new ≡ []) (λ _. Unit {0}) }
         ensures within { IfSome result (λ line. line.0 + length line.1.now < 2 ^ 64) }
     {
         let rest = self.rest?;
