@@ -20,7 +20,7 @@ use Rattle.qe_layout.specs.Refusal.{wrong, map_read}
 use Rattle.qe_layout.specs.Writing.{written}
 use Rattle.qe_layout.proofs.FillLemmas.{bytes_eq-sym}
 use Rattle.qe_layout.proofs.LaidLemmas.{arranged_slots}
-use Rattle.qe_layout.proofs.WrittenLemmas.{written_read}
+use Rattle.qe_layout.proofs.WrittenLemmas.{written_read, written-distinct}
 use Rattle.qe_parts.proofs.FormLemmas.{map_ok}
 use Rattle.qe_command.specs.declared.cells.SentCell.{SentCell}
 use Rattle.qe_command.specs.declared.cells.SentCell.TheVariants as sent
@@ -34,7 +34,7 @@ use Rattle.qe_command_document.proofs.ValueLemmas.{value_again}
 use Rattle.qe_command_written.specs.Parts.{FitsCell, CellAgain}
 use Rattle.qe_command_written.specs.Written.{cell_value, cell_elements, doc_elements}
 use Rattle.qe_command_written.proofs.FormLemmas.{insert_under}
-use Rattle.qe_command_written.proofs.TableLemmas.{EachPart, each_held, spelled, written_apart}
+use Rattle.qe_command_written.proofs.TableLemmas.{EachPart, each_held, spelled}
 
 -- a tree is that of its value
 plain_open : (level : Plain-F Plain) → plain (open_value level) ≡ roll-Plain level
@@ -232,7 +232,7 @@ doc_written fields elements doc is apart =
     let built_again : doc_build all ≡ doc = λ i. record { id = doc.id; cells = sym found.cells i } in (
       subst (AllByRecursion (λ c. FitsCell c.1)) (sym found.cells) (cells_fit 0 found.rest fit.1),
       (
-        subst (λ es. Distinct es) (sym found.same) (written_apart spell (doc_rows fields) all apart),
+        subst (λ es. Distinct es) (sym found.same) (written-distinct spell (doc_rows fields) all apart),
         λ again.
             ap (built (doc_reads fields) (doc_rows fields) doc_build) found.same
             ∙ written_read (doc_reads fields) spell (doc_rows fields) doc_build all apart
@@ -275,7 +275,7 @@ set_written fields elements set is apart =
     let fit = each_held reads rows found.slots elements PartFits (λ name value x is. (set_part fields name value x is).1.0) found.each in (
       subst (AllByRecursion (λ c. FitsCell c.1)) (sym found.cells) (cells_fit 0 found.slots fit),
       (
-        subst (λ es. Distinct es) (sym found.same) (written_apart spell rows found.slots apart),
+        subst (λ es. Distinct es) (sym found.same) (written-distinct spell rows found.slots apart),
         λ again.
             ap (built reads rows (cells_from 0)) found.same
             ∙ written_read reads spell rows (cells_from 0) found.slots apart

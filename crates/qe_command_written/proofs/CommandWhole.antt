@@ -22,7 +22,7 @@ use Rattle.qe_layout.specs.declared.malformed.Kind.TheVariants.{Missing}
 use Rattle.qe_layout.specs.Documents.{of_type, document_reads}
 use Rattle.qe_layout.specs.Layouts.{Element, slot}
 use Rattle.qe_parts.proofs.FormLemmas.{map_ok, bind_ok, built_slots}
-use Rattle.qe_parts.proofs.NamedLemmas.{document_is}
+use Rattle.qe_parts.proofs.NamedLemmas.{document_is, type_ok}
 use Rattle.qe_command.specs.declared.cells.SentCell.{SentCell}
 use Rattle.qe_command.specs.declared.command.Command.{Command}
 use Rattle.qe_command.specs.declared.command.Command.TheVariants as c
@@ -42,7 +42,7 @@ use Rattle.qe_command_written.proofs.CommandLemmas.{Laid}
 use Rattle.qe_command_written.proofs.NearLemmas.{IsNear, itself, AreNear, doc_near, HasNear, are_near, named_bytes, doc_bytes}
 use Rattle.qe_command_written.proofs.CommandNear.{doc_written_near, set_written_near}
 use Rattle.qe_command_written.proofs.TermNear.{filter_near, tokens_near}
-use Rattle.qe_command_written.proofs.SlotLemmas.{type_ok, text_is, needed_slot, ids_slot, kind_slot, job_slot, contention_slot, limit_slot, field_slot}
+use Rattle.qe_command_written.proofs.SlotLemmas.{text_is, needed_slot, ids_slot, kind_slot, job_slot, contention_slot, limit_slot, field_slot}
 
 abbrev op_text : Op → List ℕ
 op_text op.Insert = codes "insert"

@@ -6,32 +6,21 @@ use Rattle.std.specs.List.{AllByRecursion}
 use Rattle.std.proofs.lemmas.Bool.{cases_Bool, cond-true, cond-false, or_parts}
 use Rattle.std.proofs.lemmas.Slice.Eq.{bytes_eq-Decides}
 use Rattle.qe_base.specs.Bytes.{AreBytes}
-use Rattle.std.proofs.lemmas.Simd.{map-map}
-use Rattle.qe_value.specs.declared.value.Plain.{Plain, roll-Plain, out-Plain, the_lemmas}
-use Rattle.qe_value.specs.declared.value.Plain.TheOpen.{Plain-F}
+use Rattle.qe_value.specs.declared.value.Plain.{Plain, out-Plain}
 use Rattle.qe_value.specs.declared.value.Plain.TheVariants as p
 use Rattle.qe_value.specs.Measures.{fields_length, items_length, value_length, length_field}
 use Rattle.qe_value.specs.Spelling.{Spelled, element, spelled, spelled_field, fields_bytes, items_bytes, framed, document_bytes, IsName, FieldsFit, ItemsFit, Fits_with}
-use Rattle.qe_value.proofs.PlainLemmas.{rolled, out-Doc, out-Array, spelled-Doc, spelled-Array}
+use Rattle.qe_value.proofs.PlainLemmas.{out-Doc, out-Array, spelled-Doc, spelled-Array}
 use Rattle.qe_value.proofs.ReaderTools.{AreBytes-rest}
-use Rattle.qe_encode.proofs.SizeLemmas.{lengths, document_lengths}
+use Rattle.qe_encode.proofs.SizeLemmas.{value_length-Doc, value_length-Array}
 use Rattle.qe_document.specs.Names.{Distinct, is_named, value_named}
-use Rattle.qe_document.specs.Views.{items_of, items_open}
 use Rattle.qe_layout.specs.Layouts.{Element, Reader, Rows, AreSlots}
 use Rattle.qe_layout.specs.Writing.{written}
 use Rattle.qe_layout.proofs.FillLemmas.{bytes_eq-sym}
-use Rattle.qe_command_written.proofs.TableLemmas.{written_apart}
+use Rattle.qe_layout.proofs.WrittenLemmas.{written-distinct}
 
 abbrev pub size : List Element → ℕ
 size elements = fields_length (map length_field elements)
-
--- how many bytes a document and an array have
-value_length-Doc : (fs : List Element) → value_length (p.Doc fs) ≡ size fs + 5
-value_length-Doc fs = sym (lengths (p.Doc fs)) ∙ ap (λ (s : Spelled). length s.bytes) (spelled-Doc fs) ∙ document_lengths fs
-
-value_length-Array : (vs : List Plain) → value_length (p.Array vs) ≡ items_length 0 (map value_length vs) + 5
-unfolding value_length
-value_length-Array vs = search (rules, the_lemmas, map-map)
 
 -- the elements without the first of a name
 abbrev without : List ℕ → List Element → List Element
@@ -249,15 +238,4 @@ pub written_near : {A : Type 0} (reads : Reader A) (spell : A → Plain) (rows :
     → ((name : List ℕ) (value : Plain) (x : A) → reads name value ≡ Ok x → AreBytes (spelled value).bytes → IsNear value (spell x)) → AreSlots reads was rows slots
     → AreNear was (written spell rows slots)
 written_near reads spell rows slots was apart are near each =
-    are_near was (written spell rows slots) (written_apart spell rows slots apart) (slots_near reads spell rows slots was are near each)
-
--- an array
-pub items_are : (value : Plain) (items : List Plain) → items_of value ≡ Some items → value ≡ p.Array items
-unfolding items_of
-items_are value items is = by_open (out-Plain value) refl is
-  where
-    by_open : (o : Plain-F Plain) → out-Plain value ≡ o → items_open o ≡ Some items → value ≡ p.Array items
-    by_open (Plain-F.Array found) opens is =
-        let same : found ≡ items = cc in
-        sym (rolled value) ∙ ap roll-Plain (opens ∙ sym (out-Array found)) ∙ rolled (p.Array found) ∙ ap (λ vs. p.Array vs) same
-    by_open _ opens is = absurd (cc)
+    are_near was (written spell rows slots) (written-distinct spell rows slots apart) (slots_near reads spell rows slots was are near each)

@@ -13,7 +13,7 @@ use Rattle.qe_value.proofs.PlainLemmas.{spelled-Binary, out-Binary}
 use Rattle.qe_value.proofs.ReaderTools.{AreBytes-rest}
 use Rattle.qe_encode.specs.Writing.{written_as}
 use Rattle.qe_encode.proofs.FlatLemmas.{written_whole}
-use Rattle.qe_encode.proofs.SizeLemmas.{lengths, document_lengths}
+use Rattle.qe_encode.proofs.SizeLemmas.{document_lengths, value_length-Binary}
 use Rattle.qe_value.specs.Measures.{value_length}
 use Rattle.qe_document.specs.Names.{Distinct, is_named, value_named}
 use Rattle.qe_layout.specs.declared.malformed.Kind.TheVariants.{KindDiffers}
@@ -246,9 +246,6 @@ blob_is kind name _ blob is = absurd (cc)
 
 binary_bytes : (s : ℕ) (b : List ℕ) → AreBytes (spelled (p.Binary s b)).bytes → AreBytes b
 binary_bytes s b are = AreBytes-rest s b (right_bytes (to_le_bytes w32 (length b)) (s ∷ b) (subst (λ (x : Spelled). AreBytes x.bytes) (spelled-Binary s b) are))
-
-value_length-Binary : (s : ℕ) (b : List ℕ) → value_length (p.Binary s b) ≡ length b + 5
-value_length-Binary s b = let one = lengths (p.Binary s b) in let two : length (spelled (p.Binary s b)).bytes ≡ length b + 5 = ap (λ (x : Spelled). length x.bytes) (spelled-Binary s b) ∙ omega arith in sym one ∙ two
 
 binary_near : (s : ℕ) (was is : List ℕ) → length is ≤ length was → IsNear (p.Binary s was) (p.Binary s is)
 binary_near s was is short = record {

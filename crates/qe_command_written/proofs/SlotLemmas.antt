@@ -28,6 +28,7 @@ use Rattle.qe_layout.specs.Leaves.{int32_reads}
 use Rattle.qe_layout.specs.Refusal.{wrong, map_read, read_inside}
 use Rattle.qe_parts.proofs.EntryLemmas.{document_again}
 use Rattle.qe_parts.proofs.FormLemmas.{map_ok, bind_ok, inside_ok}
+use Rattle.qe_parts.proofs.NamedLemmas.{type_ok}
 use Rattle.qe_command.specs.declared.cells.SentCell.{SentCell}
 use Rattle.qe_command.specs.declared.filter.SentTerm.{SentTerm}
 use Rattle.qe_command_document.specs.declared.part.Doc.{Doc}
@@ -113,10 +114,6 @@ tokens_slot fields value x schema is =
     (found.0, (found.1.1, (w.0, ap (map_read (λ tokens. part.Tokens tokens)) (document_again (tokens_of fields) name (token_elements fields found.0) found.0 w.1))))
 
 -- a value that was read as one type
-pub type_ok : {A : Type 0} (name : List ℕ) (o : Option A) (x : A) → of_type name o ≡ Ok x → o ≡ Some x
-type_ok name (Some inner) x is = cc
-type_ok name None x is = absurd (cc)
-
 pub text_is : (value : Plain) (name : List ℕ) → text_in value ≡ Some name → value ≡ p.Str name
 text_is (p.Str text) name is = let same : text ≡ name = cc in ap (λ t. p.Str t) same
 text_is _ name is = absurd (cc)

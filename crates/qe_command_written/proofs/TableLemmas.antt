@@ -1,9 +1,6 @@
 -- Slots of a table that was read: what holds of each part, and that they are read again as they are written.
-use Rattle.std.proofs.Common.{◌≡◌, ℕ, false, List, [], ◌∷◌, refl, Option, None, Some, Ok}
-use Rattle.std.specs.Prelude.{bytes_eq}
-use Rattle.std.proofs.lemmas.Bool.{or_parts}
+use Rattle.std.proofs.Common.{◌≡◌, ℕ, List, [], ◌∷◌, Option, None, Some, Ok}
 use Rattle.qe_value.specs.declared.value.Plain.{Plain}
-use Rattle.qe_document.specs.Names.{Distinct, is_named}
 use Rattle.qe_layout.specs.Layouts.{Element, Reader, Rows, AreSlots}
 use Rattle.qe_layout.specs.Writing.{written, AreSpelled}
 
@@ -29,18 +26,3 @@ spelled reads spell Again (row ∷ rows) [] elements all each again = absurd eac
 spelled reads spell Again (row ∷ rows) (None ∷ slots) elements all each again = (each.0.0, spelled reads spell Again rows slots elements all each.1 again)
 spelled reads spell Again (row ∷ rows) (Some x ∷ slots) elements all each again =
     (all row.0 each.0.0 x each.0.1.1 again.0, spelled reads spell Again rows slots elements all each.1 again.1)
-
--- names that are written are distinct where the table's are
-written_new : {A : Type 0} (spell : A → Plain) (name : List ℕ) (rows : Rows) (slots : List (Option A)) → is_named name rows ≡ false → is_named name (written spell rows slots) ≡ false
-written_new spell name [] slots new = refl
-written_new spell name (row ∷ rows) [] new = refl
-written_new spell name (row ∷ rows) (None ∷ slots) new = written_new spell name rows slots (or_parts (bytes_eq name row.0) (is_named name rows) new).1
-written_new spell name (row ∷ rows) (Some part ∷ slots) new =
-    let parts = or_parts (bytes_eq name row.0) (is_named name rows) new in
-    rw (parts.0, written_new spell name rows slots parts.1) refl
-
-pub written_apart : {A : Type 0} (spell : A → Plain) (rows : Rows) (slots : List (Option A)) → Distinct rows → Distinct (written spell rows slots)
-written_apart spell [] slots apart = tt
-written_apart spell (row ∷ rows) [] apart = tt
-written_apart spell (row ∷ rows) (None ∷ slots) apart = written_apart spell rows slots apart.1
-written_apart spell (row ∷ rows) (Some part ∷ slots) apart = (written_new spell row.0 rows slots apart.0, written_apart spell rows slots apart.1)

@@ -20,7 +20,7 @@ use Rattle.qe_layout.specs.Leaves.{fixed_reads}
 use Rattle.qe_layout.specs.Refusal.{Refusal, wrong, bind, map_read, read_inside}
 use Rattle.qe_layout.specs.Writing.{written}
 use Rattle.qe_layout.proofs.LaidLemmas.{arranged_slots}
-use Rattle.qe_layout.proofs.WrittenLemmas.{written_read}
+use Rattle.qe_layout.proofs.WrittenLemmas.{written_read, written-distinct}
 use Rattle.qe_parts.specs.declared.parts.Part.TheVariants as part
 use Rattle.qe_parts.proofs.EntryLemmas.{fields_of-Doc, items_of-Array, each_again}
 use Rattle.qe_parts.proofs.FormLemmas.{map_ok, bind_ok, inside_ok}
@@ -35,7 +35,7 @@ use Rattle.qe_command_written.specs.Parts.{FitsTerm, TermAgain}
 use Rattle.qe_command_written.specs.Written.{term_name, sought_value, term_value, filter_value, token_elements}
 use Rattle.qe_command_written.proofs.CellLemmas.{id_again, paths_of}
 use Rattle.qe_command_written.proofs.FormLemmas.{equal_under, range_under}
-use Rattle.qe_command_written.proofs.TableLemmas.{EachPart, spelled, written_apart}
+use Rattle.qe_command_written.proofs.TableLemmas.{EachPart, spelled}
 
 abbrev pub Held : List Field → List ℕ → (Plain → Result SentTerm Refusal) → SentTerm → Type 0
 Held fields name reads term = FitsTerm term × ((name ≡ term_name fields term) × (TermAgain term → reads (sought_value term) ≡ Ok term))
@@ -180,7 +180,7 @@ tokens_written fields elements tokens is apart =
     let rows = field_rows fields in
     let found = token_slots fields elements tokens is in
     let spell : List ℕ → Plain = λ token. p.Binary 0 token in (
-      subst (λ es. Distinct es) (sym found.same) (written_apart spell rows found.slots apart),
+      subst (λ es. Distinct es) (sym found.same) (written-distinct spell rows found.slots apart),
       ap (built reads rows (tokens_from 0)) found.same
           ∙ written_read reads spell rows (tokens_from 0) found.slots apart
           (spelled reads spell (λ _. Unit {0}) rows found.slots elements (λ name value x is asked. token_again fields name value x is) found.each (none_asked found.slots))

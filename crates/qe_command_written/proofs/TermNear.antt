@@ -22,7 +22,7 @@ use Rattle.qe_layout.specs.Documents.{of_type, each_read}
 use Rattle.qe_layout.specs.Layouts.{Element}
 use Rattle.qe_layout.specs.Refusal.{wrong, map_read, read_inside}
 use Rattle.qe_parts.proofs.FormLemmas.{map_ok, bind_ok, inside_ok}
-use Rattle.qe_parts.proofs.NamedLemmas.{fields_are}
+use Rattle.qe_parts.proofs.NamedLemmas.{fields_are, items_are, type_ok}
 use Rattle.qe_command.specs.declared.filter.SentTerm.{SentTerm}
 use Rattle.qe_command.specs.declared.filter.SentTerm.TheVariants as t
 use Rattle.qe_command_document.specs.CellDocuments.{id_name, id_reads, field_rows, token_reads, tokens_of}
@@ -31,10 +31,9 @@ use Rattle.qe_command_document.specs.Payloads.{equal_reads_of, range_reads_of}
 use Rattle.qe_command_written.specs.Faults.{term_fault, terms_fault}
 use Rattle.qe_command_written.specs.Written.{term_name, sought_value, term_value, filter_value, token_elements}
 use Rattle.qe_command_written.proofs.TermLemmas.{term_at, token_slots, token_value}
-use Rattle.qe_command_written.proofs.NearLemmas.{items_are, IsNear, itself, written_near, AreNear, doc_near, EachNear, array_near, are_near, named_bytes, doc_bytes, array_items}
+use Rattle.qe_command_written.proofs.NearLemmas.{IsNear, itself, written_near, AreNear, doc_near, EachNear, array_near, are_near, named_bytes, doc_bytes, array_items}
 use Rattle.qe_command_written.proofs.PayloadNear.{equal_value_near, range_value_near}
 use Rattle.qe_command_written.proofs.CommandNear.{id_near}
-use Rattle.qe_command_written.proofs.SlotLemmas.{type_ok}
 
 abbrev TermNear : Plain → SentTerm → Type 0
 TermNear value term = IsNear value (sought_value term) × (term_fault term ≡ None)

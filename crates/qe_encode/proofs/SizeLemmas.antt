@@ -13,11 +13,11 @@ use Rattle.qe_value.proofs.PlainLemmas as tree
 abbrev HasLength : Plain → Type 0
 HasLength v = length (spelled v).bytes ≡ value_length v
 
-value_length-Doc : (fs : List (List ℕ × Plain)) → value_length (p.Doc fs) ≡ fields_length (map length_field fs) + 5
+pub value_length-Doc : (fs : List (List ℕ × Plain)) → value_length (p.Doc fs) ≡ fields_length (map length_field fs) + 5
 unfolding value_length
 value_length-Doc fs = search (rules, the_lemmas, map-map)
 
-value_length-Array : (vs : List Plain) → value_length (p.Array vs) ≡ items_length 0 (map value_length vs) + 5
+pub value_length-Array : (vs : List Plain) → value_length (p.Array vs) ≡ items_length 0 (map value_length vs) + 5
 unfolding value_length
 value_length-Array vs = search (rules, the_lemmas, map-map)
 
@@ -29,7 +29,7 @@ value_length-Str : (t : List ℕ) → value_length (p.Str t) ≡ length t + 5
 unfolding value_length
 value_length-Str t = search (rules, the_lemmas)
 
-value_length-Binary : (s : ℕ) (b : List ℕ) → value_length (p.Binary s b) ≡ length b + 5
+pub value_length-Binary : (s : ℕ) (b : List ℕ) → value_length (p.Binary s b) ≡ length b + 5
 unfolding value_length
 value_length-Binary s b = search (rules, the_lemmas)
 

@@ -20,7 +20,7 @@ written-new spell name (row ∷ rows) (Some part ∷ slots) new =
     let parts = or_parts (bytes_eq name row.0) (is_named name rows) new in
     rw (parts.0, written-new spell name rows slots parts.1) refl
 
-written-distinct : {A : Type 0} (spell : A → Plain) (rows : Rows) (slots : List (Option A)) → Distinct rows → Distinct (written spell rows slots)
+pub written-distinct : {A : Type 0} (spell : A → Plain) (rows : Rows) (slots : List (Option A)) → Distinct rows → Distinct (written spell rows slots)
 written-distinct spell [] slots apart = tt
 written-distinct spell (row ∷ rows) [] apart = tt
 written-distinct spell (row ∷ rows) (None ∷ slots) apart = written-distinct spell rows slots apart.1

@@ -134,7 +134,7 @@ operator_is wanted name (p.Int32 given) x is = by_test (int_eq given wanted) ref
 operator_is wanted name _ x is = absurd (cc)
 
 -- documents and arrays
-type_ok : {A : Type 0} (name : List ℕ) (o : Option A) (x : A) → of_type name o ≡ Ok x → o ≡ Some x
+pub type_ok : {A : Type 0} (name : List ℕ) (o : Option A) (x : A) → of_type name o ≡ Ok x → o ≡ Some x
 type_ok name (Some inner) x is = cc
 type_ok name None x is = absurd (cc)
 
@@ -146,7 +146,7 @@ fields_are value elements is = by_open (out-Plain value) refl is
     by_open (Plain-F.Doc found) opens is = let same : found ≡ elements = cc in sym (rolled value) ∙ ap roll-Plain (opens ∙ sym (out-Doc found)) ∙ rolled (p.Doc found) ∙ ap p.Doc same
     by_open _ opens is = absurd (cc)
 
-items_are : (value : Plain) (items : List Plain) → items_of value ≡ Some items → value ≡ p.Array items
+pub items_are : (value : Plain) (items : List Plain) → items_of value ≡ Some items → value ≡ p.Array items
 unfolding items_of
 items_are value items is = by_open (out-Plain value) refl is
   where

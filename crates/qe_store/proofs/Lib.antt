@@ -1,5 +1,5 @@
-mod ListLemmas
-mod HoldLemmas
-mod PlaceLemmas
-mod IdLemmas
-mod MatchLemmas
+pub mod ListLemmas
+pub mod HoldLemmas
+pub mod PlaceLemmas
+pub mod IdLemmas
+pub mod MatchLemmas
