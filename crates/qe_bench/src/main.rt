@@ -7,6 +7,7 @@
 
 mod collections;
 mod documents;
+mod hashes;
 mod work;
 
 use qe_base::NoMemory;
@@ -48,7 +49,7 @@ fn result(alloc: Global, kind: &str, word: &str) -> Result<Option<Outcome>, NoMe
 
 fn usage(rt: &impl Eprint) -> io::Result<ExitCode> {
     eprintln!(rt;
-        "usage: qe_bench [aes N] [ctr N] [schedule N] [hmac N] [seal N] [bson N] [decode N] [encode N] [decode_nested N] [encode_nested N] [rows N] [links N] [finds N] [cipher HEX]"
+        "usage: qe_bench [aes N] [ctr N] [schedule N] [hmac N] [sha256 N] [sha256_lanes N] [prf1 N] [prf1_lanes N] [seal N] [bson N] [decode N] [encode N] [decode_nested N] [encode_nested N] [rows N] [links N] [finds N] [cipher HEX]"
     )?;
     Ok(ExitCode::from(2))
 }

@@ -2,6 +2,7 @@
 
 use crate::collections::{finds, links, rows};
 use crate::documents::{decoded, encoded, mixed, nested};
+use crate::hashes::{compressions, digests, kept_macs, mac_lanes};
 use hex::FromHex;
 use qe_aes::Aes256;
 use qe_base::NoMemory;
@@ -20,6 +21,14 @@ pub enum Work {
     Schedule,
     /// HMAC of 32 bytes under a key of 32 bytes.
     Hmac,
+    /// A digest of 32 bytes: one compression.
+    Sha256,
+    /// A compression in a lane, sixteen at once.
+    Sha256Lanes,
+    /// HMAC of a number under a kept key.
+    Prf1,
+    /// The same in a lane, sixteen at once.
+    Prf1Lanes,
     /// The sealed value of 4 bytes.
     Seal,
     /// Reading and writing a document of 1,000 mixed fields, and one of 100 levels.
@@ -57,6 +66,10 @@ impl Work {
             "ctr" => Some(Work::Ctr),
             "schedule" => Some(Work::Schedule),
             "hmac" => Some(Work::Hmac),
+            "sha256" => Some(Work::Sha256),
+            "sha256_lanes" => Some(Work::Sha256Lanes),
+            "prf1" => Some(Work::Prf1),
+            "prf1_lanes" => Some(Work::Prf1Lanes),
             "seal" => Some(Work::Seal),
             "bson" => Some(Work::Bson),
             "decode" => Some(Work::Decode),
@@ -78,6 +91,10 @@ pub fn turned(alloc: Global, work: Work, turns: u64) -> Result<Outcome, NoMemory
         Work::Ctr => Ok(ended(ctr(turns), 4096)),
         Work::Schedule => Ok(ended(schedule(turns), 32)),
         Work::Hmac => Ok(ended(macs(turns), 32)),
+        Work::Sha256 => Ok(digests(turns)),
+        Work::Sha256Lanes => Ok(compressions(turns)),
+        Work::Prf1 => Ok(kept_macs(turns)),
+        Work::Prf1Lanes => Ok(mac_lanes(turns)),
         Work::Seal => Ok(ended(seals(alloc, turns)?, 4)),
         Work::Bson => {
             both(alloc, mixed(alloc)?, turns)?;
