@@ -2,6 +2,7 @@ pub mod JsonAgainLemmas
 pub mod JsonDeepLemmas
 pub mod JsonFloatLemmas
 pub mod JsonFormLemmas
+pub mod JsonFormedLemmas
 pub mod JsonFormlessLemmas
 pub mod JsonLeafLemmas
 pub mod JsonLevelsLemmas

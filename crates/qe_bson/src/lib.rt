@@ -13,7 +13,7 @@ mod reader;
 
 pub use extended_json::{
     JsonFault, a_hundred_levels_are_read, an_integer_has_one_text, bytes_have_one_text, from_json,
-    to_json, what_is_printed_is_read_again, what_is_unprintable,
+    to_json, what_is_printed_is_read_again, what_is_read_has_a_form, what_is_unprintable,
 };
 pub use qe_document::{
     BsonFault, BsonKind, Document, ElementType, EncodeFault, MOST_BYTES, MOST_LEVELS, Plain,

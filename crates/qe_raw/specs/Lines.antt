@@ -1,5 +1,5 @@
 -- The lines of a script, and their numbers.
-use Rattle.std.specs.Prelude.{ℕ, ◌+◌, ◌||◌, ◌==◌, List, Bool, not, map, filter}
+use Rattle.std.specs.Prelude.{ℕ, ◌+◌, ◌||◌, ◌==◌, List, [], ◌∷◌, Bool, not, map, filter, if◌then◌else◌}
 use Rattle.std.specs.List.{list_all}
 
 -- a line of spaces, tabs and carriage returns alone
@@ -16,3 +16,8 @@ from_one line = (line.0 + 1, line.1)
 -- the lines that aren't blank, each with its number: one more than the lines before it, blank ones among them
 unfoldable pub numbered : List (ℕ × List ℕ) → List (ℕ × List ℕ)
 numbered lines = map from_one (filter is_told lines)
+
+-- the lines from the first one on that isn't blank
+abbrev pub past_blank : List (ℕ × List ℕ) → List (ℕ × List ℕ)
+past_blank [] = []
+past_blank (line ∷ lines) = if is_blank line.1 then past_blank lines else line ∷ lines

@@ -1,10 +1,10 @@
 -- The values of a command's line: each has its form, or is a bad one.
-use Rattle.std.specs.Prelude.{ℕ, ◌^◌, List, [], codes, bytes_eq, nat_lt, Option, None, Some, option_and_then, unwrap_or, Result, Ok, Err, if◌then◌else◌}
+use Rattle.std.specs.Prelude.{ℕ, ◌^◌, List, [], codes, bytes_eq, nat_lt, Option, None, Some, option_and_then, unwrap_or, Result, Ok, if◌then◌else◌}
+use Rattle.std.specs.Result.{result_ok}
 use Rattle.serde_json.specs.Data.{Data, Members}
 use Rattle.serde_json.specs.Find.{as_u64, as_number, as_str, get_member}
 use Rattle.qe_value.specs.declared.value.Plain.{Plain}
 use Rattle.qe_value.specs.Views.{fields_of}
-use Rattle.qe_bson.specs.declared.extended_json.fault.JsonFault.{JsonFault}
 use Rattle.qe_bson.specs.JsonReading.{value_of_json}
 use Rattle.qe_base.specs.declared.maintenance.JobKind.{JobKind}
 use Rattle.qe_base.specs.declared.maintenance.JobKind.TheVariants as j
@@ -20,13 +20,13 @@ Fields = List (List ℕ × Plain)
 abbrev pub needed : List ℕ → Members → Result Data ScriptKind
 needed name ms = some_or (k.Missing name) (get_member name ms)
 
-abbrev pub document_from : Result Plain JsonFault → Option Fields
-document_from (Ok value) = fields_of value
-document_from (Err fault) = None
+-- what Extended JSON gives of a value, if it gives one
+abbrev pub value_if_any : Data → Option Plain
+value_if_any d = result_ok (value_of_json d)
 
--- the document that Extended JSON gives of a value, if it gives one
+-- .. and the document that this is
 abbrev pub document_of : Data → Option Fields
-document_of d = document_from (value_of_json d)
+document_of d = option_and_then fields_of (value_if_any d)
 
 abbrev pub document_at : List ℕ → Data → Result Fields ScriptKind
 document_at name d = some_or (k.BadValue name) (document_of d)

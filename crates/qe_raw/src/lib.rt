@@ -22,5 +22,5 @@ pub use lines::next_line;
 pub use names::{Rule, check_names, member};
 pub use object::{Object, read_json};
 pub use raw::{command_in, object_command, raw_line, read_raw};
-pub use values::{needed, needed_whole, optional_document};
+pub use values::{needed, needed_whole, optional_document, value_if_any};
 pub use verb::{Verb, rules_of, verb_in};

@@ -4,6 +4,7 @@ ghost use Rattle.std.specs.Prelude.{◌≡◌, IfOk, option_map};
 ghost use Rattle.serde_json.specs.Find.{get_member};
 ghost use Rattle.serde_json.specs.View.{view, members_view};
 ghost use Rattle.qe_base.specs.Answers.{Answers};
+ghost use Rattle.qe_value.specs.Views.{plain};
 ghost use Rattle.qe_schema.specs.Judgements.{some_or};
 ghost use Rattle.qe_raw.specs.Faults.{line_refusal};
 ghost use Rattle.qe_raw.specs.Values as values;
@@ -13,7 +14,7 @@ use crate::fault::{LineFault, ScriptKind};
 use crate::names::member;
 use crate::object::Object;
 use qe_base::{JobKind, NoMemory, Text};
-use qe_bson::{Document, JsonFault, from_json};
+use qe_bson::{Document, JsonFault, Value, from_json};
 use serde_json::Value as Json;
 use std::alloc::Global;
 
@@ -30,14 +31,24 @@ pub fn needed<'a>(alloc: Global, members: &'a Object, name: &str) -> Result<&'a 
     }
 }
 
-// The document that a value is, if it is one.
-fn document_of(alloc: Global, value: &Json) -> Result<Option<Document>, NoMemory>
-    ensures { IfOk result (λ document. document ≡ values.document_of (view value.now)) }
+/// What Extended JSON gives of a value, if it gives one.
+pub fn value_if_any(alloc: Global, json: &Json) -> Result<Option<Value>, NoMemory>
+    ensures { IfOk result (λ value. option_map plain value ≡ values.value_if_any (view json.now)) }
 {
-    match from_json(alloc, value) {
-        Ok(value) => Ok(value.into_document()),
+    match from_json(alloc, json) {
+        Ok(value) => Ok(Some(value)),
         Err(JsonFault::NoMemory) => Err(NoMemory),
         Err(_) => Ok(None),
+    }
+}
+
+// The document that a value is, if it is one.
+fn document_of(alloc: Global, json: &Json) -> Result<Option<Document>, NoMemory>
+    ensures { IfOk result (λ document. document ≡ values.document_of (view json.now)) }
+{
+    match value_if_any(alloc, json)? {
+        Some(value) => Ok(value.into_document()),
+        None => Ok(None),
     }
 }
 

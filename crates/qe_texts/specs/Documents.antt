@@ -1,5 +1,5 @@
 -- Values and documents as JSON without spaces, in the forms of MongoDB Extended JSON v2.
-use Rattle.std.specs.Prelude.{ℕ, List, ◌∷◌, [], map, codes, Result, Ok, Err}
+use Rattle.std.specs.Prelude.{ℕ, List, ◌∷◌, map, codes, Result, Ok, Err}
 use Rattle.serde_json.specs.Data.{Data, Members}
 use Rattle.serde_json.specs.Written.{compact_text}
 use Rattle.qe_value.specs.declared.value.Plain.{Plain}

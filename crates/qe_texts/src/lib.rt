@@ -14,6 +14,6 @@ mod refusal;
 mod reply;
 
 pub use fault::PrintFault;
-pub use laws::{a_reply_is_one_line, what_is_unprintable_in_a_reply};
+pub use laws::{a_reply_is_one_line, what_is_printable_stays_so, what_is_unprintable_in_a_reply};
 pub use refusal::refusal_text;
 pub use reply::reply_text;

@@ -1,6 +1,6 @@
 //! Laws about the forms and about both directions.
 
-ghost use Rattle.std.specs.Prelude.{◌≡◌, ◌<◌, ◌≤◌, ◌↔◌, ℕ, ℤ, List, true, Ok, Err, Some};
+ghost use Rattle.std.specs.Prelude.{◌≡◌, ◌<◌, ◌≤◌, ◌↔◌, ℕ, ℤ, List, true, false, Ok, Err, Some};
 ghost use Rattle.std.specs.Fmt.{signed_decimal};
 ghost use Rattle.std.specs.Result.{result_ok};
 ghost use Rattle.base64.specs.Engines.{standard};
@@ -42,6 +42,11 @@ pub fn a_hundred_levels_are_read()
 pub fn what_is_unprintable()
     ensures exactly { (v : Plain) → (json_of v ≡ Err Unprintable) ↔ (formless v ≡ true) }
     ensures alone { (v : Plain) (fault : JsonFault) → json_of v ≡ Err fault → fault ≡ Unprintable }
+{}
+
+/// No value that is read holds a double, a decimal or a timestamp, so each can be printed.
+pub fn what_is_read_has_a_form()
+    ensures { (d : Data) (v : Plain) → value_of_json d ≡ Ok v → formless v ≡ false }
 {}
 
 /// What is printed of a value is read as the value again, where the names of each document rise and none has a form's
