@@ -1,0 +1,6 @@
+-- Wrapping at each step is wrapping at the end.
+use Rattle.std.proofs.Common.{◌≡◌, ℕ, ◌+◌, ◌*◌, ◌%◌, ◌^◌}
+use Rattle.std.proofs.Math.Nat.{mod-add-mod}
+
+pub wrapped_step : (x a c : ℕ) → (x * a % 2 ^ 64 + c) % 2 ^ 64 ≡ (x * a + c) % 2 ^ 64
+wrapped_step x a c = mod-add-mod (x * a) (2 ^ 64) c
