@@ -21,10 +21,10 @@ use Rattle.qe_labels.proofs.ListedLemmas.{label_listed, listed_label, labels_sor
 
 -- ---- what repeats in a list
 module _ {K : Type 0} (same : K → K → Bool) where
-  abbrev ClearOf : List K → List K → Type 0
+  abbrev pub ClearOf : List K → List K → Type 0
   ClearOf before ks = AllByRecursion (λ k. AllByRecursion (λ b. same k b ≡ false) before) ks
 
-  abbrev Apart : List K → Type 0
+  abbrev pub Apart : List K → Type 0
   Apart [] = Unit {0}
   Apart (k ∷ ks) = AllByRecursion (λ y. same y k ≡ false) ks × Apart ks
 
@@ -60,13 +60,13 @@ module _ {K : Type 0} (same : K → K → Bool) where
       let rest = clear_front x before ks clear.1 in
       ((one.0, rest.0), (one.1, rest.1))
 
-  apart_none : (ks before : List K) → ClearOf before ks → Apart ks → repeat_after same before ks ≡ None
+  pub apart_none : (ks before : List K) → ClearOf before ks → Apart ks → repeat_after same before ks ≡ None
   apart_none [] before clear apart = refl
   apart_none (k ∷ ks) before clear apart =
       ap (λ o. settle o (length before) (repeat_after same (before ++ k ∷ []) ks)) (position_none k 0 before clear.0)
       ∙ apart_none ks (before ++ k ∷ []) (clear_push k before ks clear.1 apart.0) apart.1
 
-  none_apart : (ks before : List K) → repeat_after same before ks ≡ None → ClearOf before ks × Apart ks
+  pub none_apart : (ks before : List K) → repeat_after same before ks ≡ None → ClearOf before ks × Apart ks
   none_apart [] before none = (tt, tt)
   none_apart (k ∷ ks) before none =
       (elim (position_from (same k) 0 before) as (λ o. position_from (same k) 0 before ≡ o → settle o (length before) (repeat_after same (before ++ k ∷ []) ks) ≡ None
@@ -79,17 +79,28 @@ module _ {K : Type 0} (same : K → K → Bool) where
       ]) refl none
 
 -- ---- keys are the same where groups and identifiers are
-beq_true : (a b : Bool) → beq a b ≡ true → a ≡ b
+pub beq_true : (a b : Bool) → beq a b ≡ true → a ≡ b
 beq_true true true is = refl
 beq_true true false is = cc
 beq_true false true is = cc
 beq_true false false is = refl
 
-beq_same : (a b : Bool) → a ≡ b → beq a b ≡ true
+pub beq_same : (a b : Bool) → a ≡ b → beq a b ≡ true
 beq_same true true is = refl
 beq_same true false is = cc
 beq_same false true is = cc
 beq_same false false is = refl
+
+-- a label isn't below itself
+pub not_below : (one other : Label) → label_cmp one other ≡ Less → one ≡ other → ⊥
+not_below one other up same =
+    let tie : label_cmp other other ≡ Equal =
+    ap (λ o. ordering_then o (ordering_then (word_cmp other.word other.word) (nat_cmp other.number other.number))) (tied_itself nat_cmp_total (kind_place other.kind))
+    ∙ ap (λ o. ordering_then o (nat_cmp other.number other.number)) (tied_itself words_total other.word)
+    ∙ tied_itself nat_cmp_total other.number in
+    let down : label_cmp other other ≡ Less = ap (λ l. label_cmp l other) (sym same) ∙ up in
+    let met : Less ≡ Equal = sym down ∙ tie in
+    cc
 
 module _ (root : ℕ → List ℕ) (numbers : Numbers) where
   abbrev key : Label → Bool × List ℕ
@@ -108,17 +119,6 @@ module _ (root : ℕ → List ℕ) (numbers : Numbers) where
   shares_to one other group id =
       and_from (beq (is_tag one.kind) (is_tag other.kind)) (bytes_eq (identifier_of root one) (identifier_of root other))
       (beq_same (is_tag one.kind) (is_tag other.kind) group) ((bytes_eq-Decides (identifier_of root one) (identifier_of root other)).1 id)
-
-  -- a label isn't below itself
-  not_below : (one other : Label) → label_cmp one other ≡ Less → one ≡ other → ⊥
-  not_below one other up same =
-      let tie : label_cmp other other ≡ Equal =
-      ap (λ o. ordering_then o (ordering_then (word_cmp other.word other.word) (nat_cmp other.number other.number))) (tied_itself nat_cmp_total (kind_place other.kind))
-      ∙ ap (λ o. ordering_then o (nat_cmp other.number other.number)) (tied_itself words_total other.word)
-      ∙ tied_itself nat_cmp_total other.number in
-      let down : label_cmp other other ≡ Less = ap (λ l. label_cmp l other) (sym same) ∙ up in
-      let met : Less ≡ Equal = sym down ∙ tie in
-      cc
 
   free_apart : IsFree root numbers → (ls : List Label) → ((l : Label) → IsAmong l ls → IsLabel (counted numbers) l) → IsStrictlySortedBy label_cmp ls
       → Apart same_key (map key_of (map (with_identifier root) ls))
@@ -165,11 +165,11 @@ module _ (root : ℕ → List ℕ) (numbers : Numbers) where
       in_other)
       in_one
 
-  no_pair : (entries : List (Label × List ℕ)) (o : Option (ℕ × ℕ)) → option_map (pair_at entries) o ≡ None → o ≡ None
+  pub no_pair : (entries : List (Label × List ℕ)) (o : Option (ℕ × ℕ)) → option_map (pair_at entries) o ≡ None → o ≡ None
   no_pair entries None none = refl
   no_pair entries (Some places) none = absurd (cc)
 
-  clear_of_none : (ks : List (Bool × List ℕ)) → ClearOf same_key [] ks
+  pub clear_of_none : (ks : List (Bool × List ℕ)) → ClearOf same_key [] ks
   clear_of_none [] = tt
   clear_of_none (k ∷ ks) = (tt, clear_of_none ks)
 

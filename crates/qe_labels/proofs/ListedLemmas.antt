@@ -14,7 +14,7 @@ use Rattle.qe_tokens.specs.declared.words.LabelKind.TheVariants.{Position, Ancho
 use Rattle.qe_tokens.specs.declared.words.Word.{Word}
 use Rattle.qe_tokens.specs.declared.words.Word.TheVariants.{Item, Stray}
 use Rattle.qe_labels.specs.Numbers.{Numbers, word_cmp, counted}
-use Rattle.qe_labels.specs.Listed.{labels, of_kind, numbered, how_many, label_cmp, kind_place}
+use Rattle.qe_labels.specs.Listed.{labels, labels_in, of_kind, numbered, how_many, label_cmp, kind_place}
 use Rattle.qe_labels.specs.Laws.{ListsLabels}
 use Rattle.qe_labels.proofs.AmongLemmas.{IsAmong, place_of, among_at, among_left, among_right, among_cases, each_from, each_at}
 use Rattle.qe_labels.proofs.OrderLemmas.{words_total, words_exact, tied}
@@ -228,10 +228,8 @@ of_kind_sorted kind (e ∷ es) rise =
     let other = of_kind_only kind es y in_back in
     by_word x y (one.kind ∙ sym other.kind) (ap (λ w. word_cmp w y.word) one.word ∙ below_among e.0 y.word other.n es parts.0 other.entry))
 
-pub labels_sorted : (numbers : Numbers) → IsStrictlySortedBy label_cmp (labels numbers)
-labels_sorted numbers =
-    let es : List (Word × ℕ) = entries numbers in
-    let rise = entries_sorted numbers in
+pub labels_in_sorted : (es : List (Word × ℕ)) → T (is_sorted word_cmp es) → IsStrictlySortedBy label_cmp (labels_in es)
+labels_in_sorted es rise =
     sorted_append (of_kind Position es) (of_kind Anchor es ++ of_kind Tag es) (of_kind_sorted Position es rise)
     (sorted_append (of_kind Anchor es) (of_kind Tag es) (of_kind_sorted Anchor es rise) (of_kind_sorted Tag es rise)
     (λ x y in_front in_back.
@@ -244,6 +242,9 @@ labels_sorted numbers =
     (λ (two : IsAmong y (of_kind Anchor es)). let other = ap kind_place (of_kind_only Anchor es y two).kind in by_kind x y (omega (arith, one, other)))
     (λ (three : IsAmong y (of_kind Tag es)). let other = ap kind_place (of_kind_only Tag es y three).kind in by_kind x y (omega (arith, one, other)))
     (among_cases y (of_kind Anchor es) (of_kind Tag es) in_back))
+
+pub labels_sorted : (numbers : Numbers) → IsStrictlySortedBy label_cmp (labels numbers)
+labels_sorted numbers = labels_in_sorted (entries numbers) (entries_sorted numbers)
 
 pub lists_labels : (numbers : Numbers) → ListsLabels numbers
 lists_labels numbers = record {

@@ -1,0 +1,4 @@
+pub mod EntryLemmas
+pub mod EventLemmas
+pub mod RootLemmas
+pub mod LabelLemmas
