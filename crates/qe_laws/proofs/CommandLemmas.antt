@@ -20,7 +20,7 @@ use Rattle.qe_encodes.specs.Counted.{is_accepted, numbers_by, opened_by, strays_
 use Rattle.qe_encodes.specs.Fields.{IsUnder}
 use Rattle.qe_encodes.specs.Replies.{Answers, told}
 use Rattle.qe_standing.specs.Stands.{Acted, Stands}
-use Rattle.qe_laws.specs.Commands.{CommandKept, CommandSent}
+use Rattle.qe_laws.proofs.Commands.{CommandKept, CommandSent}
 use Rattle.qe_laws.proofs.MaintenanceLemmas.{begin_acted, step_acted, end_acted, abandon_acted, raise_acted}
 
 pub either_same : {A : Type 0} (b : Bool) (x : A) → (if b then x else x) ≡ x

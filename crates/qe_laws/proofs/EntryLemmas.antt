@@ -19,9 +19,9 @@ use Rattle.qe_encodes.specs.Kept.{is_plain}
 use Rattle.qe_encodes.specs.Words.{plain_cells, sent_cells, sought_words, stored_words}
 use Rattle.qe_standing.specs.Stands.{Stands}
 use Rattle.qe_standing.proofs.LimitLemmas.{within_next}
-use Rattle.qe_laws.specs.Commands.{CommandKept, CommandSent}
+use Rattle.qe_laws.proofs.Commands.{CommandKept, CommandSent}
+use Rattle.qe_laws.specs.Journals.{KeepsEntries}
 use Rattle.qe_laws.proofs.CommandLemmas.{begin_kept, step_kept, end_kept, abandon_kept, raise_kept}
-use Rattle.qe_laws.proofs.JournalLemmas.{KeepsEntries}
 use Rattle.qe_laws.proofs.StrayLemmas.{strays_all_learned, strays_stored}
 
 module _ (u : Under) (is : IsUnder u) where

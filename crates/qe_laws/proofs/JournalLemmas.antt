@@ -17,19 +17,19 @@ use Rattle.qe_esc.specs.Rows.{Row}
 use Rattle.qe_protocol.specs.declared.journal.JournalEntry.{JournalEntry}
 use Rattle.qe_protocol.specs.declared.reply.Outcome.{Outcome}
 use Rattle.qe_protocol.specs.State.{State}
-use Rattle.qe_protocol.specs.Journal.{IsAllowed, IsLegal, IsLegalFrom, done, first_contention, opening, state_from, state_of}
+use Rattle.qe_protocol.specs.Journal.{IsLegal, IsLegalFrom, done, first_contention, opening, state_from, state_of}
 use Rattle.qe_labels.specs.Laws.{IsFree}
 use Rattle.qe_labels.specs.Numbers.{Later, Numbers, all_learned, all_raised, word_cmp}
 use Rattle.qe_labels.specs.Under.{Under, root_of}
 use Rattle.qe_labels.proofs.NumberLemmas.{free_before, later_all_learned, later_all_raised, later_on, later_same}
 use Rattle.qe_encodes.specs.Callers.{Callers, callers_next, opening_callers}
 use Rattle.qe_encodes.specs.Counted.{is_accepted, numbers_from, numbers_of, numbers_with, stray_words}
-use Rattle.qe_encodes.specs.Encoded.{EncodedFrom, IsEncoded, IsEncodedEntry}
+use Rattle.qe_encodes.specs.Encoded.{EncodedFrom, IsEncoded}
 use Rattle.qe_encodes.specs.Kept.{is_kept, outcomes_of, replies_due, replies_in, without_maintenance, woven, woven_at}
 use Rattle.qe_encodes.specs.Replies.{Answers}
 use Rattle.qe_encodes.specs.Words.{sought_words, stored_words}
-use Rattle.qe_standing.specs.Stands.{IsDue, Stands}
-use Rattle.qe_laws.specs.Journals.{IsAnsweredPlainly, IsNow, replies_from, replies_of}
+use Rattle.qe_standing.specs.Stands.{IsDue}
+use Rattle.qe_laws.specs.Journals.{EntryKept, IsAnsweredPlainly, IsNow, KeepsEntries, callers_from, replies_from, replies_of}
 
 -- ---- at first no word is known, and there is no row
 none_known : (word : Word) (n : ℕ) → get (empty {X = ℕ} {R = word_cmp}) word ≡ Some n → ⊥
@@ -60,22 +60,11 @@ module _ (u : Under) where
       (later_from plains entries (done state entry).state next)
 
   -- ---- one entry, and all
-  pub record EntryKept (numbers : Numbers) (state : State) (callers : Callers) (documents : List PlainDocument) (plain : PlainCommand) (entry : JournalEntry) : Type 0 where
-    pub later : List PlainDocument
-    pub reply : PlainReply
-    pub now : IsNow u (numbers_with u state plain entry numbers) (done state entry).state (callers_next callers entry.caller plain entry.outcome) later
-    pub answers : Answers u (done state entry).reply reply
-    pub due : IsDue (is_kept plain entry.outcome) documents plain entry.outcome later reply
-
-  abbrev pub KeepsEntries : Type 0
-  KeepsEntries = (numbers : Numbers) (state : State) (callers : Callers) (documents : List PlainDocument) (plain : PlainCommand) (entry : JournalEntry)
-      → IsNow u numbers state callers documents → IsEncodedEntry u callers plain entry → IsAllowed u.schema state entry
-      → IsFree (root_of u) (numbers_with u state plain entry numbers) → EntryKept numbers state callers documents plain entry
-
-  pub record JournalKept (numbers : Numbers) (state : State) (documents : List PlainDocument) (plains : List PlainCommand) (entries : List JournalEntry) : Type 0 where
+  pub record JournalKept (numbers : Numbers) (state : State) (callers : Callers) (documents : List PlainDocument) (plains : List PlainCommand) (entries : List JournalEntry)
+      : Type 0 where
     pub last : List PlainDocument
     pub kept : List PlainReply
-    pub stands : Stands u (numbers_from u state numbers plains entries) (state_from state entries) last
+    pub now : IsNow u (numbers_from u state numbers plains entries) (state_from state entries) (callers_from callers plains entries) last
     pub plainly : replay_from documents (without_maintenance plains (outcomes_of entries)) ≡ Some (last, kept)
     pub answers : AllZip (Answers u) (replies_from state entries) (woven plains (outcomes_of entries) kept)
 
@@ -109,26 +98,27 @@ module _ (u : Under) where
     pub more_kept : IsDue (is_kept plain outcome) documents plain outcome later reply → IsMore
     more_kept due = more_by (is_kept plain outcome) refl due
 
-  module _ (keep : KeepsEntries) where
+  module _ (keep : KeepsEntries u) where
     pub journal_kept : (plains : List PlainCommand) (entries : List JournalEntry) (numbers : Numbers) (state : State) (callers : Callers) (documents : List PlainDocument)
         → IsNow u numbers state callers documents → EncodedFrom u callers plains entries → IsLegalFrom u.schema state entries
-        → IsFree (root_of u) (numbers_from u state numbers plains entries) → JournalKept numbers state documents plains entries
-    journal_kept [] [] numbers state callers documents now encoded legal free = record { last = documents; kept = []; stands = now.stands; plainly = refl; answers = tt }
+        → IsFree (root_of u) (numbers_from u state numbers plains entries) → JournalKept numbers state callers documents plains entries
+    journal_kept [] [] numbers state callers documents now encoded legal free = record { last = documents; kept = []; now = now; plainly = refl; answers = tt }
     journal_kept [] (entry ∷ entries) numbers state callers documents now encoded legal free = absurd encoded
     journal_kept (plain ∷ plains) [] numbers state callers documents now encoded legal free = absurd encoded
     journal_kept (plain ∷ plains) (entry ∷ entries) numbers state callers documents now encoded legal free =
         let next = numbers_with u state plain entry numbers in
         let after_state = (done state entry).state in
         let free_next = free_before (root_of u) next (numbers_from u after_state next plains entries) (later_from plains entries after_state next) free in
-        let one : EntryKept numbers state callers documents plain entry = keep numbers state callers documents plain entry now encoded.0 legal.0 free_next in
-        let rest : JournalKept next after_state one.later plains entries =
-        journal_kept plains entries next after_state (callers_next callers entry.caller plain entry.outcome) one.later one.now encoded.1 legal.1 free in
+        let one : EntryKept u numbers state callers documents plain entry = keep numbers state callers documents plain entry now encoded.0 legal.0 free_next in
+        let next_callers = callers_next callers entry.caller plain entry.outcome in
+        let rest : JournalKept next after_state next_callers one.later plains entries =
+        journal_kept plains entries next after_state next_callers one.later one.now encoded.1 legal.1 free in
         let more : IsMore documents plain entry.outcome one.later one.reply plains (outcomes_of entries) rest.last rest.kept rest.plainly =
         more_kept documents plain entry.outcome one.later one.reply plains (outcomes_of entries) rest.last rest.kept rest.plainly one.due in
         record {
           last = rest.last;
           kept = more.replies;
-          stands = rest.stands;
+          now = rest.now;
           plainly = more.plainly;
           answers = subst (AllZip (Answers u) (replies_from state (entry ∷ entries))) (sym more.woven_so) (one.answers, rest.answers);
         }
@@ -165,6 +155,6 @@ module _ (u : Under) where
           last = kept.last;
           replies = kept.kept;
           plainly = kept.plainly;
-          stands = kept.stands;
+          now = kept.now;
           answers = subst (λ o. AllZip (Answers u) (replies_from (opening u.schema) journal) (woven plains (outcomes_of journal) (replies_in o))) (sym kept.plainly) kept.answers;
         }

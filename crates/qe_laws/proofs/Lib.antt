@@ -1,3 +1,4 @@
+pub mod Commands
 pub mod StrayLemmas
 pub mod MaintenanceLemmas
 pub mod JournalLemmas
@@ -7,3 +8,11 @@ pub mod TheoremLemmas
 pub mod OneCommandLemmas
 pub mod OneEntryLemmas
 pub mod OneAllLemmas
+pub mod FrontLemmas
+pub mod CountLemmas
+pub mod ApartLemmas
+pub mod CountCellLemmas
+pub mod CountUnitLemmas
+pub mod CountEntryLemmas
+pub mod MismatchLemmas
+pub mod OwnLemmas

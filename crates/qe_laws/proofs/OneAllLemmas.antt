@@ -1,5 +1,5 @@
 -- Uniqueness: without a clash an entry is the only one of its caller, command and nonces that is allowed where it stands.
-use Rattle.std.proofs.Common.{◌≡◌, ℕ, Bool, true, false, if◌then◌else◌, List, [], Option, None, Some, refl, sym, ap, ◌∙◌, subst, arith, ⊎_elim}
+use Rattle.std.proofs.Common.{◌≡◌, ℕ, Bool, true, false, if◌then◌else◌, List, [], ◌∷◌, ◌++◌, Option, None, Some, refl, sym, ap, ◌∙◌, subst, arith, ⊎_elim}
 use Rattle.std.proofs.lemmas.Bool.{cases_Bool, cond_both, cond-true, cond-false, MatchBool-at_false, MatchBool-at_true}
 use Rattle.std.proofs.lemmas.List.Elements.{recursion_from_All}
 use Rattle.std.specs.List.{AllByRecursion, AllZip, list_any}
@@ -27,7 +27,7 @@ use Rattle.qe_protocol.specs.Contention.{refusal}
 use Rattle.qe_protocol.specs.Documents.{has_document}
 use Rattle.qe_protocol.specs.Filters.{AllowedTerms, filter_rest, filter_sets, matches}
 use Rattle.qe_protocol.specs.Indexing.{AllowedCells, index_cells}
-use Rattle.qe_protocol.specs.Journal.{IsAllowed, done}
+use Rattle.qe_protocol.specs.Journal.{IsAllowed, done, state_of}
 use Rattle.qe_protocol.specs.Next.{AllowedCounts, AllowedInsert, AllowedServed, AllowedUnless, AllowedUpdate, insert_step, inserted, next, outcome_of, sets_for, unless_refused, update_step, updated}
 use Rattle.qe_protocol.specs.State.{Done, State, answered}
 use Rattle.qe_labels.specs.Laws.{IsFree}
@@ -36,7 +36,7 @@ use Rattle.qe_labels.specs.Under.{Under, root_of}
 use Rattle.qe_labels.proofs.NumberLemmas.{free_before, later_all_raised}
 use Rattle.qe_relation.proofs.PlaceLemmas.{each_weaker}
 use Rattle.qe_encodes.specs.Callers.{Callers, Contentions}
-use Rattle.qe_encodes.specs.Counted.{is_accepted, numbers_with, opened_by, strays_of}
+use Rattle.qe_encodes.specs.Counted.{is_accepted, numbers_of, numbers_with, opened_by, strays_of}
 use Rattle.qe_encodes.specs.Encoded.{IsEncodedEntry}
 use Rattle.qe_encodes.specs.Encodes.{SendsCell}
 use Rattle.qe_encodes.specs.Fields.{IsUnder, kind_at}
@@ -48,9 +48,11 @@ use Rattle.qe_standing.specs.Laws.{AreMeant}
 use Rattle.qe_standing.specs.Stands.{Stands}
 use Rattle.qe_standing.proofs.ActLemmas.{learned_stand}
 use Rattle.qe_standing.proofs.NumberLemmas.{all_known}
-use Rattle.qe_laws.specs.Commands.{CommandSent}
-use Rattle.qe_laws.specs.Journals.{IsNow}
+use Rattle.qe_laws.proofs.Commands.{CommandSent}
+use Rattle.qe_laws.specs.Entries.{AtEachEntry, IsOnlyEntry}
+use Rattle.qe_laws.specs.Journals.{IsNow, KeepsEntries}
 use Rattle.qe_laws.proofs.CommandLemmas.{either_same}
+use Rattle.qe_laws.proofs.FrontLemmas.{IsReached, reached}
 use Rattle.qe_laws.proofs.OneCommandLemmas.{cells_one, terms_one}
 use Rattle.qe_laws.proofs.OneEntryLemmas.{filter_one, step_one}
 
@@ -213,3 +215,14 @@ module _ (u : Under) (is : IsUnder u) where
       → IsAllowed u.schema state other → entry.caller ≡ other.caller → entry.command ≡ other.command → entry.nonces ≡ other.nonces → entry ≡ other
   one_now numbers state callers documents plain entry other now encoded allowed free also caller command nonces =
       sym (entry_one numbers state callers documents plain entry other now encoded allowed free also (sym caller) (sym command) (sym nonces))
+
+-- ---- journals
+pub only_entries : ((u : Under) → IsUnder u → KeepsEntries u) → AtEachEntry IsOnlyEntry
+only_entries keeps u is earlier later plain front back entry many encoded free other also caller command nonces =
+    let numbers = numbers_of u earlier front in
+    let run = numbers_of u (earlier ++ plain ∷ later) (front ++ entry ∷ back) in
+    let state = state_of u.schema front in
+    let at : IsReached u numbers run state plain entry = reached u (keeps u is) earlier later plain front back entry many encoded free in
+    let free_then : IsFree (root_of u) (numbers_with u state plain entry numbers) =
+    free_before (root_of u) (numbers_with u state plain entry numbers) run at.later free in
+    one_now u is numbers state at.callers at.documents plain entry other at.now at.encoded at.allowed free_then also caller command nonces

@@ -4,9 +4,9 @@ use Rattle.qe_labels.specs.Under.{Under}
 use Rattle.qe_encodes.specs.Fields.{IsUnder}
 use Rattle.qe_encodes.specs.Laws.{EdgeLaws}
 use Rattle.qe_standing.proofs.ServeLemmas.{act_kept}
-use Rattle.qe_laws.specs.Journals.{AnswersPlainly}
+use Rattle.qe_laws.specs.Journals.{AnswersPlainly, KeepsEntries}
 use Rattle.qe_laws.proofs.EntryLemmas.{KeepsDocuments, entries_kept}
-use Rattle.qe_laws.proofs.JournalLemmas.{KeepsEntries, all_kept}
+use Rattle.qe_laws.proofs.JournalLemmas.{all_kept}
 
 module _ (laws : EdgeLaws) (steps : StepsKeepCollections) where
   documents_kept : (u : Under) (is : IsUnder u) → KeepsDocuments u is

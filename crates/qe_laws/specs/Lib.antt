@@ -1,2 +1,3 @@
 pub mod Journals
-pub mod Commands
+pub mod Searches
+pub mod Entries

@@ -18,8 +18,8 @@ use Rattle.qe_encodes.specs.Fields.{IsUnder}
 use Rattle.qe_encodes.specs.Laws.{EdgeLaws}
 use Rattle.qe_encodes.specs.Meant.{IsMeant}
 use Rattle.qe_plain.specs.Laws.{StepsKeepCollections}
-use Rattle.qe_laws.specs.Journals.{IsNow}
-use Rattle.qe_laws.proofs.JournalLemmas.{EntryKept, later_from, opening_now}
+use Rattle.qe_laws.specs.Journals.{EntryKept, IsNow}
+use Rattle.qe_laws.proofs.JournalLemmas.{later_from, opening_now}
 use Rattle.qe_laws.proofs.OneAllLemmas.{entry_one}
 use Rattle.qe_laws.proofs.TheoremLemmas.{each_kept}
 use Rattle.qe_runs.specs.Laws.{OneRun}

@@ -10,6 +10,7 @@ use Rattle.qe_encodes.specs.Callers.{opening_callers}
 use Rattle.qe_encodes.specs.Counted.{numbers_of}
 use Rattle.qe_encodes.specs.Encoded.{IsEncoded}
 use Rattle.qe_encodes.specs.Meant.{IsMeant}
+use Rattle.qe_laws.specs.Journals.{IsAnsweredPlainly}
 use Rattle.qe_runs.specs.Runs.{Setting, IsLineSent, IsRun, callers_after, commands_of, own_commands}
 
 -- a run grows by an entry that is allowed and that the next line's caller sent, as it stands then; each run is made so
@@ -39,3 +40,10 @@ abbrev pub OneRun : Setting → Type 0
 OneRun setting = (lines : List Line) (journal other : List JournalEntry)
     → AllByRecursion (λ line. IsMeant setting.under.schema line.command) lines → IsRun setting lines journal
     → IsFree (root_of setting.under) (numbers_of setting.under (commands_of lines) journal) → IsRun setting lines other → journal ≡ other
+
+-- a run without a clash is answered plainly: its replies, but for maintenance and for what a contention refused, are those of
+-- the plain replay of the other commands
+abbrev pub RunsAreAnsweredPlainly : Setting → Type 0
+RunsAreAnsweredPlainly setting = (lines : List Line) (journal : List JournalEntry)
+    → AllByRecursion (λ line. IsMeant setting.under.schema line.command) lines → IsRun setting lines journal
+    → IsFree (root_of setting.under) (numbers_of setting.under (commands_of lines) journal) → IsAnsweredPlainly setting.under (commands_of lines) journal

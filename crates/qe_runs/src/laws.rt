@@ -1,7 +1,7 @@
 //! Laws of runs, each as the contract of a function that does nothing.
 
 ghost use Rattle.qe_encodes.specs.Fields.{IsUnder};
-ghost use Rattle.qe_runs.specs.Laws.{CallersCount, OneRun, RunsEncode, RunsGrow};
+ghost use Rattle.qe_runs.specs.Laws.{CallersCount, OneRun, RunsAreAnsweredPlainly, RunsEncode, RunsGrow};
 ghost use Rattle.qe_runs.specs.Runs.{Setting};
 
 use qe_edges::{lists_are_the_sets, meet_once, texts_differ};
@@ -18,7 +18,7 @@ pub fn a_run_is_encoded()
     ensures { (setting : Setting) → RunsEncode setting }
 {}
 
-/// A caller's command has the number of its earlier ones.
+/// A caller's next command has the number of its earlier ones, in 64 bits.
 pub fn a_command_has_the_number_of_the_earlier_ones()
     ensures { (setting : Setting) → CallersCount setting }
 {}
@@ -27,6 +27,17 @@ pub fn a_command_has_the_number_of_the_earlier_ones()
 /// count that is true, nothing of a run is left open.
 pub fn a_run_without_a_clash_is_the_only_one()
     ensures { (setting : Setting) → IsUnder setting.under → OneRun setting }
+{
+    meet_once();
+    lists_are_the_sets();
+    texts_differ();
+    a_step_keeps_a_collection();
+}
+
+/// A run without a clash is answered plainly: its replies, but for maintenance and for what a contention refused, are those of
+/// the plain replay of the other commands, and the state at its end stands for what that leaves.
+pub fn a_run_is_answered_plainly()
+    ensures { (setting : Setting) → IsUnder setting.under → RunsAreAnsweredPlainly setting }
 {
     meet_once();
     lists_are_the_sets();

@@ -8,6 +8,6 @@
 mod laws;
 
 pub use laws::{
-    a_command_has_the_number_of_the_earlier_ones, a_run_is_encoded,
+    a_command_has_the_number_of_the_earlier_ones, a_run_is_answered_plainly, a_run_is_encoded,
     a_run_without_a_clash_is_the_only_one, runs_grow_by_lines,
 };

@@ -1,0 +1,18 @@
+use Rattle.qe_labels.specs.Under.{Under}
+use Rattle.qe_encodes.specs.Fields.{IsUnder}
+use Rattle.qe_encodes.specs.Laws.{EdgeLaws}
+use Rattle.qe_laws.specs.Journals.{KeepsEntries}
+use Rattle.qe_laws.proofs.OneAllLemmas.{only_entries}
+use Rattle.qe_laws.proofs.TheoremLemmas.{each_kept}
+use Rattle.qe_laws.proofs.laws.each_entry_is_the_only_one.Goals as goal
+
+pub returns : goal.returns
+returns c =
+    let laws : EdgeLaws = record {
+      meet = c.meet_once.ensures.meets;
+      edges = c.lists_are_the_sets.ensures.edges;
+      cover = c.lists_are_the_sets.ensures.cover;
+      texts = c.texts_differ.ensures;
+    } in
+    let keeps : (u : Under) → IsUnder u → KeepsEntries u = each_kept laws c.a_step_keeps_a_collection.ensures.step in
+    only_entries keeps
