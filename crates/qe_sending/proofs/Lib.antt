@@ -1,0 +1,5 @@
+pub mod LoopLemmas
+pub mod EdgeLemmas
+pub mod TermLemmas
+pub mod CellLemmas
+pub mod SendableLemmas
