@@ -1,0 +1,10 @@
+pub mod TestLemmas
+pub mod ValueLemmas
+pub mod FoundLemmas
+pub mod ByteLemmas
+pub mod PlaceLemmas
+pub mod KeyLemmas
+pub mod OpeningLemmas
+pub mod AnswerLemmas
+pub mod LearnedLemmas
+pub mod LawLemmas
