@@ -1,0 +1,4 @@
+pub mod FirstLemmas
+pub mod ContentionLemmas
+pub mod TurnLemmas
+pub mod CauseLemmas
