@@ -1,0 +1,3 @@
+pub mod Serving
+pub mod Documents
+pub mod Engines
