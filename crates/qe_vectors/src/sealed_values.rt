@@ -1,7 +1,7 @@
 //! Sealed values, as openssl makes them.
 
 use qe_base::{Bytes, NoMemory};
-use qe_line::{Fault, Hex, bytes_of, counting};
+use qe_line::{Fault, Hex, bytes_of, counting, print_hex, print_line};
 use qe_seal::{SealFault, seal, unseal};
 use std::alloc::Global;
 
@@ -9,7 +9,7 @@ const SEALED: &str = "101112131415161718191a1b1c1d1e1f2f54e8a316c8bffdcc51248d16
     22c635e90c728e38b5e8751a0059d4053152a1d13aea1d92704df4e517c40709";
 
 /// Prints what is sealed and unsealed under the key 00 to 5f.
-pub fn print(rt: &(impl Print + AllocGlobal)) -> Result<(), Fault> {
+pub fn print(rt: &HostRuntime) -> Result<(), Fault> {
     print_sealed(rt)?;
     let mut bytes: [u8; 64] = bytes_of(SEALED)?;
     print_unsealed(rt, &bytes)?;
@@ -18,10 +18,9 @@ pub fn print(rt: &(impl Print + AllocGlobal)) -> Result<(), Fault> {
     print_unsealed(rt, &bytes)
 }
 
-fn print_sealed(rt: &(impl Print + AllocGlobal)) -> Result<(), Fault> {
+fn print_sealed(rt: &HostRuntime) -> Result<(), Fault> {
     let sealed = sealed(rt.alloc())?;
-    println!(rt; "sealed 2a000000: {}", Hex(sealed.slice()))?;
-    Ok(())
+    print_hex(rt, "sealed 2a000000", sealed.slice())
 }
 
 fn sealed(alloc: Global) -> Result<Bytes, NoMemory> {
@@ -29,14 +28,23 @@ fn sealed(alloc: Global) -> Result<Bytes, NoMemory> {
     seal(alloc, &key, &id, &iv, &[42, 0, 0, 0])
 }
 
-fn print_unsealed(rt: &(impl Print + AllocGlobal), bytes: &[u8]) -> Result<(), Fault> {
-    let length = bytes.len();
+fn print_unsealed(rt: &HostRuntime, bytes: &[u8]) -> Result<(), Fault> {
     match unseal(rt.alloc(), &counting(0), &counting(0xa0), bytes) {
-        Ok(plain) => println!(rt; "unsealed {length} bytes: {}", Hex(plain.slice()))?,
-        Err(SealFault::MacDiffers { want, got }) => {
-            println!(rt; "the MAC is {}, not {}", Hex(&want), Hex(&got))?
-        }
-        Err(fault) => println!(rt; "unsealed {length} bytes: {fault:?}")?,
+        Ok(plain) => print_plain(rt, bytes.len(), plain.slice()),
+        Err(fault) => print_refused(rt, bytes.len(), fault),
     }
-    Ok(())
+}
+
+fn print_plain(rt: &HostRuntime, length: usize, plain: &[u8]) -> Result<(), Fault> {
+    print_line(rt, format_args!("unsealed {length} bytes: {}", Hex(plain)))
+}
+
+fn print_refused(rt: &HostRuntime, length: usize, fault: SealFault) -> Result<(), Fault> {
+    match fault {
+        SealFault::MacDiffers { want, got } => print_line(
+            rt,
+            format_args!("the MAC is {}, not {}", Hex(&want), Hex(&got)),
+        ),
+        fault => print_line(rt, format_args!("unsealed {length} bytes: {fault:?}")),
+    }
 }

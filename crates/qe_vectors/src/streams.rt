@@ -1,14 +1,15 @@
 //! Sources and sinks, lists and texts, and the statuses of a run.
 
 use qe_base::{
-    Bytes, Duplicate, FreeGate, Gate, Ids, Listing, MemorySink, MemorySource, NoMemory, Status,
-    StdSink, StdSource, TakeFault, Text, Texts, array_at, put_all, take_all,
+    Bytes, Duplicate, Failed, FreeGate, Gate, Ids, Listing, MemorySink, MemorySource, NoMemory,
+    Status, StdSink, StdSource, TakeFault, Text, Texts, array_at, put_all, take_all,
 };
-use qe_line::{Fault, Hex, counting};
+use qe_line::{Fault, Hex, counting, print_hex, print_line, print_shown};
 use std::alloc::Global;
+use std::fmt;
 
 /// Prints what sources and sinks of memory give and take, and then of the standard streams.
-pub fn print(rt: &(impl Input + Print + AllocGlobal)) -> Result<(), Fault> {
+pub fn print(rt: &HostRuntime) -> Result<(), Fault> {
     print_sources(rt)?;
     print_sinks(rt)?;
     print_lists(rt)?;
@@ -27,30 +28,43 @@ const SOURCES: [(usize, &[u8]); 6] = [
     (10000, &[2]),
 ];
 
-fn print_sources(rt: &(impl Print + AllocGlobal)) -> Result<(), Fault> {
+fn print_sources(rt: &HostRuntime) -> Result<(), Fault> {
     for (length, failing) in SOURCES {
         print_source(rt, length, failing)?;
     }
     Ok(())
 }
 
-fn print_source(
-    rt: &(impl Print + AllocGlobal),
-    length: usize,
-    failing: &[u8],
-) -> Result<(), Fault> {
-    let mut source = source_of(rt.alloc(), length, failing)?;
-    match taken_of(rt.alloc(), &mut source) {
-        Ok((taken, kept)) => { println!(rt; "taken of {length} bytes: {taken}, {kept} as given")? }
-        Err(fault) => println!(rt; "taken of {length} bytes: {fault:?} at {}", Hex(failing))?,
+fn print_source(rt: &HostRuntime, length: usize, failing: &[u8]) -> Result<(), Fault> {
+    match taken_of(rt.alloc(), length, failing) {
+        Ok(taken) => print_shown(rt, format_args!("taken of {length} bytes"), taken),
+        Err(fault) => print_line(
+            rt,
+            format_args!("taken of {length} bytes: {fault:?} at {}", Hex(failing)),
+        ),
     }
-    Ok(())
 }
 
-// How many bytes are taken, and how many of them stand where `source_of` puts them.
-fn taken_of(alloc: Global, source: &mut MemorySource) -> Result<(usize, usize), TakeFault> {
-    let bytes = take_all(alloc, source)?;
-    Ok((bytes.len(), kept_of(bytes.slice())))
+// How many bytes were taken, and how many of them stand where `source_of` puts them.
+#[derive(Drop)]
+struct Taken {
+    bytes: usize,
+    kept: usize,
+}
+
+impl fmt::Display for Taken {
+    fn fmt<W: fmt::Write>(&self, f: &mut fmt::Formatter<W>) -> fmt::Result {
+        write!(f, "{}, {} as given", self.bytes, self.kept)
+    }
+}
+
+fn taken_of(alloc: Global, length: usize, failing: &[u8]) -> Result<Taken, TakeFault> {
+    let mut source = source_of(alloc, length, failing)?;
+    let bytes = take_all(alloc, &mut source)?;
+    Ok(Taken {
+        bytes: bytes.len(),
+        kept: kept_of(bytes.slice()),
+    })
 }
 
 fn source_of(alloc: Global, length: usize, failing: &[u8]) -> Result<MemorySource, NoMemory> {
@@ -76,7 +90,7 @@ fn kept_of(bytes: &[u8]) -> usize {
 }
 
 // A failed put leaves what there was room for.
-fn print_sinks(rt: &(impl Print + AllocGlobal)) -> Result<(), Fault> {
+fn print_sinks(rt: &HostRuntime) -> Result<(), Fault> {
     for room in 0..8 {
         let mut sink = MemorySink::new(rt.alloc(), room)?;
         print_put(rt, room, &mut sink)?;
@@ -84,39 +98,41 @@ fn print_sinks(rt: &(impl Print + AllocGlobal)) -> Result<(), Fault> {
     Ok(())
 }
 
-fn print_put(rt: &impl Print, room: u64, sink: &mut MemorySink) -> Result<(), Fault> {
+fn print_put(rt: &HostRuntime, room: u64, sink: &mut MemorySink) -> Result<(), Fault> {
     match put_all(sink, b"prefix") {
-        Ok(()) => println!(rt; "put into room {room}: [{}]", Hex(sink.held()))?,
-        Err(fault) => println!(rt; "put into room {room}: [{}] {fault:?}", Hex(sink.held()))?,
+        Ok(()) => print_held(rt, room, sink.held()),
+        Err(fault) => print_part(rt, room, sink.held(), fault),
     }
-    Ok(())
 }
 
-fn print_lists(rt: &(impl Print + AllocGlobal)) -> Result<(), Fault> {
-    print_ids(rt)?;
-    let part: [u8; 4] = array_at(&counting::<8>(0), 2);
-    println!(rt; "4 bytes from place 2: {}", Hex(&part))?;
-    Ok(())
+fn print_held(rt: &HostRuntime, room: u64, held: &[u8]) -> Result<(), Fault> {
+    print_line(rt, format_args!("put into room {room}: [{}]", Hex(held)))
 }
 
-fn print_ids(rt: &(impl Print + AllocGlobal)) -> Result<(), Fault> {
+fn print_part(rt: &HostRuntime, room: u64, held: &[u8], fault: Failed) -> Result<(), Fault> {
+    print_line(
+        rt,
+        format_args!("put into room {room}: [{}] {fault:?}", Hex(held)),
+    )
+}
+
+fn print_lists(rt: &HostRuntime) -> Result<(), Fault> {
     let ids = ids_of(rt.alloc())?;
-    print_each_id(rt, &ids)?;
-    let copied = number_copied(&ids)?;
-    println!(rt; "ids: {} {copied}", ids.len())?;
-    Ok(())
+    print_ids(rt, &ids)?;
+    let part: [u8; 4] = array_at(&counting::<8>(0), 2);
+    print_hex(rt, "4 bytes from place 2", &part)
 }
 
-fn print_each_id(rt: &impl Print, ids: &Ids) -> Result<(), Fault> {
+fn print_ids(rt: &HostRuntime, ids: &Ids) -> Result<(), Fault> {
     for id in ids.slice() {
-        println!(rt; "id: {}", Hex(id))?;
+        print_hex(rt, "id", id)?;
     }
-    Ok(())
+    print_copied(rt, ids)
 }
 
-fn number_copied(ids: &Ids) -> Result<usize, NoMemory> {
+fn print_copied(rt: &HostRuntime, ids: &Ids) -> Result<(), Fault> {
     let copied = ids.copy()?.into_vec();
-    Ok(copied.len())
+    print_line(rt, format_args!("ids: {} {}", ids.len(), copied.len()))
 }
 
 fn ids_of(alloc: Global) -> Result<Ids, NoMemory> {
@@ -128,11 +144,10 @@ fn ids_of(alloc: Global) -> Result<Ids, NoMemory> {
     Ok(ids)
 }
 
-fn print_texts(rt: &(impl Print + AllocGlobal)) -> Result<(), Fault> {
+fn print_texts(rt: &HostRuntime) -> Result<(), Fault> {
     let texts = texts_of(rt.alloc())?;
     print_each_text(rt, &texts)?;
-    println!(rt; "number: {}", 9u64.copy()?)?;
-    Ok(())
+    print_shown(rt, "number", 9u64.copy()?)
 }
 
 fn texts_of(alloc: Global) -> Result<Texts, NoMemory> {
@@ -142,14 +157,14 @@ fn texts_of(alloc: Global) -> Result<Texts, NoMemory> {
     texts.copy()
 }
 
-fn print_each_text(rt: &impl Print, texts: &Texts) -> Result<(), Fault> {
+fn print_each_text(rt: &HostRuntime, texts: &Texts) -> Result<(), Fault> {
     for text in texts.slice() {
-        println!(rt; "text: {}", text.as_str())?;
+        print_shown(rt, "text", text.as_str())?;
     }
     Ok(())
 }
 
-fn print_statuses(rt: &impl Print) -> Result<(), Fault> {
+fn print_statuses(rt: &HostRuntime) -> Result<(), Fault> {
     for status in [
         Status::Done,
         Status::ReadFault,
@@ -160,13 +175,13 @@ fn print_statuses(rt: &impl Print) -> Result<(), Fault> {
         Status::NoMemory,
         Status::BadWords,
     ] {
-        println!(rt; "{status:?}: {}", status.code())?;
+        print_line(rt, format_args!("{status:?}: {}", status.code()))?;
     }
     Ok(())
 }
 
 // The standard input is `stdin`; a gate lets through.
-fn print_streams(rt: &(impl Input + Print + AllocGlobal)) -> Result<(), Fault> {
+fn print_streams(rt: &HostRuntime) -> Result<(), Fault> {
     FreeGate.before(0, 0);
     FreeGate.answered(0, 0);
     let bytes = take_all(rt.alloc(), &mut StdSource::new(rt))?;

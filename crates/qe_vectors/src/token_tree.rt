@@ -1,18 +1,19 @@
 //! The token tree and its identifiers, for the data key 00 to 5f and the int32 value 5.
 
-use qe_base::{Bytes, Duplicate};
-use qe_line::{Fault, Hex, counting};
+use qe_base::{Bytes, Duplicate, NoMemory};
+use qe_line::{Fault, Hex, counting, print_hexes, print_line};
 use qe_tokens::{
     EscTag, Label, LabelKind, Word, anchor_id, collections, document_tag, ecoc, edc,
     edc_contention, edc_derived, edc_twice, esc, esc_contention, esc_derived, esc_tag, esc_value,
     null_id, position_id, root_key, server_cipher, server_count, server_derived, server_token,
     server_zeros,
 };
+use std::alloc::Global;
 
 const ITEM: [u8; 4] = [5, 0, 0, 0];
 
 /// Prints the tokens of both sides, and the identifiers.
-pub fn print(rt: &(impl Print + AllocGlobal)) -> Result<(), Fault> {
+pub fn print(rt: &HostRuntime) -> Result<(), Fault> {
     print_documents(rt)?;
     print_rows(rt)?;
     print_server(rt)?;
@@ -20,79 +21,89 @@ pub fn print(rt: &(impl Print + AllocGlobal)) -> Result<(), Fault> {
 }
 
 // The derived tokens by libmongocrypt 1.7.2, the others by Python's `hmac`.
-fn print_documents(rt: &impl Print) -> Result<(), Fault> {
+fn print_documents(rt: &HostRuntime) -> Result<(), Fault> {
     let level = collections(&root_key(&counting(0)));
     let derived = edc_derived(&edc(&level), &ITEM);
     let contention = edc_contention(&derived, 0);
     let twice = edc_twice(&contention);
-    println!(rt; "EDC derived: {}", Hex(&derived.0))?;
-    println!(rt; "EDC derived under factor 0: {}", Hex(&contention.0))?;
-    println!(rt; "EDC twice derived: {}", Hex(&twice.0))?;
-    println!(rt; "tag of document 1: {}", Hex(&document_tag(&twice, 1)))?;
-    Ok(())
+    let rows = [
+        ("EDC derived", derived.0),
+        ("EDC derived under factor 0", contention.0),
+        ("EDC twice derived", twice.0),
+        ("tag of document 1", document_tag(&twice, 1)),
+    ];
+    print_hexes(rt, &rows)
 }
 
 // Likewise.
-fn print_rows(rt: &impl Print) -> Result<(), Fault> {
+fn print_rows(rt: &HostRuntime) -> Result<(), Fault> {
     let level = collections(&root_key(&counting(0)));
     let derived = esc_derived(&esc(&level), &ITEM);
     let contention = esc_contention(&derived, 0);
-    println!(rt; "ECOC: {}", Hex(&ecoc(&level).0))?;
-    println!(rt; "ESC derived: {}", Hex(&derived.0))?;
-    println!(rt; "ESC derived under factor 0: {}", Hex(&contention.0))?;
-    println!(rt; "ESC value: {}", Hex(&esc_value(&contention).0))?;
-    print_identifiers(rt, &esc_tag(&contention))
-}
-
-// By Python's `hmac`.
-fn print_identifiers(rt: &impl Print, tag: &EscTag) -> Result<(), Fault> {
-    for (name, bytes) in [
+    let (ecoc, value) = (ecoc(&level).0, esc_value(&contention).0);
+    let tag = esc_tag(&contention);
+    let rows = [
+        ("ECOC", ecoc),
+        ("ESC derived", derived.0),
+        ("ESC derived under factor 0", contention.0),
+        ("ESC value", value),
         ("ESC tag", tag.0),
-        ("position 1", position_id(tag, 1)),
-        ("anchor 1", anchor_id(tag, 1)),
-        ("null anchor", null_id(tag)),
-    ] {
-        println!(rt; "{name}: {}", Hex(&bytes))?;
-    }
-    Ok(())
+        ("position 1", position_id(&tag, 1)),
+        ("anchor 1", anchor_id(&tag, 1)),
+        ("null anchor", null_id(&tag)),
+    ];
+    print_hexes(rt, &rows)
 }
 
 // The server's cipher by libmongocrypt 1.7.2, the others by Python's `hmac`.
-fn print_server(rt: &impl Print) -> Result<(), Fault> {
+fn print_server(rt: &HostRuntime) -> Result<(), Fault> {
     let root = root_key(&counting(0));
     let derived = server_derived(&server_token(&root), &ITEM);
-    println!(rt; "server cipher: {}", Hex(&server_cipher(&root).0))?;
-    println!(rt; "server derived: {}", Hex(&derived.0))?;
-    println!(rt; "server count: {}", Hex(&server_count(&derived).0))?;
-    println!(rt; "server zeros: {}", Hex(&server_zeros(&derived).0))?;
-    Ok(())
+    let cipher = server_cipher(&root).0;
+    let count = server_count(&derived).0;
+    let zeros = server_zeros(&derived).0;
+    let rows = [
+        ("server cipher", cipher),
+        ("server derived", derived.0),
+        ("server count", count),
+        ("server zeros", zeros),
+    ];
+    print_hexes(rt, &rows)
 }
 
 // A label is copied whole.
-fn print_label(rt: &(impl Print + AllocGlobal)) -> Result<(), Fault> {
-    let word = Word::Item {
-        field: 1,
-        item: Bytes::from_slice(rt.alloc(), b"item")?,
-        contention: 2,
-    };
+fn print_label(rt: &HostRuntime) -> Result<(), Fault> {
     let label = Label {
         kind: LabelKind::Tag,
-        word,
+        word: word_of(rt.alloc())?,
         number: 3,
     };
-    let Label { kind, word, number } = label.copy()?;
-    match word {
+    print_copied(rt, &label.copy()?)
+}
+
+fn word_of(alloc: Global) -> Result<Word, NoMemory> {
+    Ok(Word::Item {
+        field: 1,
+        item: Bytes::from_slice(alloc, b"item")?,
+        contention: 2,
+    })
+}
+
+fn print_copied(rt: &HostRuntime, label: &Label) -> Result<(), Fault> {
+    match &label.word {
         Word::Item {
             field,
             item,
             contention,
-        } => {
-            let item = Hex(item.slice());
-            println!(rt;
-                "label: {kind:?} {number} of field {field} item {item} factor {contention}"
-            )?
-        }
-        Word::Stray { .. } => return Err(Fault::Refused),
+        } => print_line(
+            rt,
+            format_args!(
+                "label: {:?} {} of field {field} item {} factor {contention}",
+                label.kind,
+                label.number,
+                Hex(item.slice())
+            ),
+        ),
+        Word::Stray { .. } => Err(Fault::Refused),
     }
-    Ok(())
 }
