@@ -3,13 +3,13 @@ use Rattle.std.proofs.Common.{◌≡◌, ℕ, zero, suc, ◌+◌, ◌*◌, ◌<�
 use Rattle.std.proofs.lemmas.List.{take_more, map-append}
 use Rattle.std.specs.Prelude.{replicate}
 use Rattle.qe_tokens.specs.Labels.{row_token, tag_token}
-use Rattle.qe_tokens.specs.Tokens.{collections_of, edc_contention_of, edc_derived_of, edc_of, edc_twice_of, esc_contention_of, esc_derived_of, esc_of, esc_tag_of}
+use Rattle.qe_tokens.specs.Tokens.{collections_of, edc_contention_of, edc_derived_of, edc_of, esc_contention_of, esc_derived_of, esc_of}
 use Rattle.qe_tokens.specs.declared.tokens.RootKey.{RootKey}
 use Rattle.qe_tokens.specs.declared.words.Word.{Word}
 use Rattle.qe_tokens.specs.declared.words.Word.TheVariants.{Item, Stray}
 use Rattle.qe_label_list.specs.declared.kept.Kept.{Kept}
 use Rattle.qe_label_list.specs.declared.tokens.FieldKeys.{FieldKeys}
-use Rattle.qe_label_list.specs.declared.tokens.WordTokens.{WordTokens}
+use Rattle.qe_label_rows.specs.declared.row.WordTokens.{WordTokens}
 use Rattle.qe_label_list.specs.Kept.{IsKept}
 use Rattle.qe_label_list.specs.Roots.{AreWithin, IsWithin, root_in}
 use Rattle.qe_label_list.specs.Tokens.{AreOfFields, IsOfField, IsOfItem, tokens_of}
@@ -44,10 +44,10 @@ fields_next fields roots place d keys within are is =
 module _ (keys : Kept) (contention : ℕ) (tokens : WordTokens) where
   -- a word's keys, from those of its item
   abbrev RowsFrom : Type 0
-  RowsFrom = (root item : List ℕ) → IsOfItem keys.keys root item → tokens.rows ≡ esc_tag_of (esc_contention_of (esc_derived_of (esc_of (collections_of root)) item) contention)
+  RowsFrom = (root item : List ℕ) → IsOfItem keys.keys root item → tokens.rows ≡ esc_contention_of (esc_derived_of (esc_of (collections_of root)) item) contention
 
   abbrev TagsFrom : Type 0
-  TagsFrom = (root item : List ℕ) → IsOfItem keys.keys root item → tokens.tags ≡ edc_twice_of (edc_contention_of (edc_derived_of (edc_of (collections_of root)) item) contention)
+  TagsFrom = (root item : List ℕ) → IsOfItem keys.keys root item → tokens.tags ≡ edc_contention_of (edc_derived_of (edc_of (collections_of root)) item) contention
 
   pub item_made : (roots : List RootKey) (field : ℕ) (item : List ℕ) (end n : ℕ) (word : Word) → IsKept roots keys → keys.field ≡ field → keys.item.now ≡ item
       → RowsFrom → TagsFrom → tokens.has_tags ≡ true → tokens.end ≡ end → end ≡ 2 * n + 3 → word ≡ Item field item contention
@@ -62,7 +62,7 @@ module _ (keys : Kept) (contention : ℕ) (tokens : WordTokens) where
       (λ i. record { rows = row i; tags = tag i; has_tags = has_tags i; end = number i })
       ∙ ap (λ w. tokens_of (root_in roots) (w, n)) (sym is)
 
-pub stray_made : (root : ℕ → List ℕ) (token : List ℕ) (end n : ℕ) (word : Word) (tokens : WordTokens) → tokens.rows ≡ esc_tag_of token → tokens.tags ≡ replicate 32 0
+pub stray_made : (root : ℕ → List ℕ) (token : List ℕ) (end n : ℕ) (word : Word) (tokens : WordTokens) → tokens.rows ≡ token → tokens.tags ≡ replicate 32 0
     → tokens.has_tags ≡ false → tokens.end ≡ end → end ≡ 2 * n + 3 → word ≡ Stray token → tokens ≡ tokens_of root (word, n)
 stray_made root token end n word tokens rows tags has_tags is_end last is =
     let number : tokens.end ≡ 2 * n + 3 = is_end ∙ last in

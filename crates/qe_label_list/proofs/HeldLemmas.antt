@@ -7,7 +7,7 @@ use Rattle.qe_tokens.specs.declared.words.Label.{Label}
 use Rattle.qe_tokens.specs.declared.words.LabelKind.{LabelKind}
 use Rattle.qe_tokens.specs.declared.words.Word.{Word}
 use Rattle.qe_tokens.specs.declared.words.Word.TheVariants.{Stray}
-use Rattle.qe_label_list.specs.declared.row.Row.{Row}
+use Rattle.qe_label_rows.specs.declared.row.Row.{Row}
 use Rattle.qe_label_list.specs.Order.{IsInOrder}
 use Rattle.qe_label_list.specs.Rows.{AreHeld, AreKnown, entries_of, entry_at, word_at}
 

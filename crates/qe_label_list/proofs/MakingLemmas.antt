@@ -1,5 +1,5 @@
 -- Rows that are made kind by kind are the labels of words, with their identifiers.
-use Rattle.std.proofs.Common.{◌≡◌, ◌&&◌, ℕ, zero, suc, ◌+◌, ◌-◌, ◌*◌, ◌<◌, ◌≤◌, Bool, true, false, T, List, [], ◌∷◌, ◌++◌, map, length, get_or, Ordering, Less, refl, sym, ap, ◌∙◌, subst, arith}
+use Rattle.std.proofs.Common.{◌≡◌, ◌&&◌, ℕ, zero, suc, ◌+◌, ◌-◌, ◌*◌, Bool, true, false, T, List, [], ◌∷◌, ◌++◌, map, length, get_or, Ordering, Less, refl, sym, ap, ◌∙◌, subst, arith}
 use Rattle.std.proofs.lemmas.List.{map-append, append_assoc, length_push, length-map, get_or_at}
 use Rattle.std.specs.List.{AllByRecursion}
 use Rattle.std.specs.List.Sorted.{IsStrictlySortedBy}
@@ -16,30 +16,13 @@ use Rattle.qe_labels.specs.Clashes.{with_identifier}
 use Rattle.qe_labels.specs.Listed.{how_many, label_cmp, labels_in, numbered, of_kind}
 use Rattle.qe_labels.specs.Numbers.{word_cmp}
 use Rattle.qe_labels.proofs.ListedLemmas.{labels_in_sorted}
-use Rattle.qe_label_list.specs.declared.row.Row.{Row}
-use Rattle.qe_label_list.specs.declared.tokens.WordTokens.{WordTokens}
-use Rattle.qe_label_list.specs.Made.{count_for, identifier_under, key_for, row_for, rows_from, rows_of_all, rows_of_kind, rows_of_word}
+use Rattle.qe_label_rows.specs.declared.row.Row.{Row}
+use Rattle.qe_label_rows.specs.declared.row.WordTokens.{WordTokens}
+use Rattle.qe_label_rows.specs.Made.{identifier_under, key_for, rows_from, rows_of_all, rows_of_kind, rows_of_word}
+use Rattle.qe_label_rows.proofs.RowLemmas.{known_both, known_kind}
 use Rattle.qe_label_list.specs.Order.{IsInOrder, labels_in as labels_alone}
-use Rattle.qe_label_list.specs.Rows.{AreHeld, AreKnown, entries_of, entry_at, word_at}
+use Rattle.qe_label_list.specs.Rows.{AreHeld, entries_of, entry_at, word_at}
 use Rattle.qe_label_list.specs.Tokens.{tokens_by, tokens_of}
-
--- one row more
-pub rows_push : (kind : LabelKind) (place : ℕ) (key : List ℕ) (more from : ℕ)
-    → rows_from kind place key from (suc more) ≡ rows_from kind place key from more ++ row_for kind place key (from + more) ∷ []
-rows_push kind place key zero from = let same : from ≡ from + 0 = omega arith in ap (λ n. row_for kind place key n ∷ []) same
-rows_push kind place key (suc more) from =
-    let same : (from + 1) + more ≡ from + suc more = omega arith in
-    ap (λ rows. row_for kind place key from ∷ rows) (rows_push kind place key more (from + 1))
-    ∙ ap (λ n. row_for kind place key from ∷ (rows_from kind place key (from + 1) more ++ row_for kind place key n ∷ [])) same
-
--- .. of a word's numbers, from the first up to a number
-pub rows_next : (kind : LabelKind) (place : ℕ) (key : List ℕ) (first number : ℕ) → first ≤ number
-    → rows_from kind place key first (number - first) ++ row_for kind place key number ∷ [] ≡ rows_from kind place key first ((number + 1) - first)
-rows_next kind place key first number low =
-    let one : first + (number - first) ≡ number = omega arith in
-    let two : suc (number - first) ≡ (number + 1) - first = omega arith in
-    sym (ap (rows_from kind place key first) (sym two) ∙ rows_push kind place key (number - first) first
-    ∙ ap (λ n. rows_from kind place key first (number - first) ++ row_for kind place key n ∷ []) one)
 
 module _ (root : ℕ → List ℕ) (words : List Word) where
   abbrev one_label : LabelKind → Word → ℕ → Label
@@ -63,7 +46,7 @@ module _ (root : ℕ → List ℕ) (words : List Word) where
   unfolding row_token
   word_rows Position place (Item field item factor) n is =
       let many : (2 * n + 3) - 1 ≡ 2 * n + 2 = omega arith in
-      let key = (tokens_by root (Item field item factor) (2 * n + 3)).rows in
+      let key = key_for Position (tokens_by root (Item field item factor) (2 * n + 3)) in
       ap (λ m. entries_of words (rows_from Position place key 1 m)) many
       ∙ rows_are Position place key (Item field item factor) is (λ _. refl) (2 * n + 2) 1
   word_rows Position place (Stray token) n is =
@@ -71,11 +54,11 @@ module _ (root : ℕ → List ℕ) (words : List Word) where
       ap (λ m. entries_of words (rows_from Position place (esc_tag_of token) 1 m)) many
       ∙ rows_are Position place (esc_tag_of token) (Stray token) is (λ _. refl) (2 * n + 2) 1
   word_rows Anchor place (Item field item factor) n is =
-      rows_are Anchor place (tokens_by root (Item field item factor) (2 * n + 3)).rows (Item field item factor) is (λ _. refl) (2 * n + 3) 0
+      rows_are Anchor place (key_for Anchor (tokens_by root (Item field item factor) (2 * n + 3))) (Item field item factor) is (λ _. refl) (2 * n + 3) 0
   word_rows Anchor place (Stray token) n is = rows_are Anchor place (esc_tag_of token) (Stray token) is (λ _. refl) (2 * n + 3) 0
   word_rows Tag place (Item field item factor) n is =
       let many : (2 * n + 3) - 1 ≡ 2 * n + 2 = omega arith in
-      let key = (tokens_by root (Item field item factor) (2 * n + 3)).tags in
+      let key = key_for Tag (tokens_by root (Item field item factor) (2 * n + 3)) in
       ap (λ m. entries_of words (rows_from Tag place key 1 m)) many
       ∙ rows_are Tag place key (Item field item factor) is (λ _. refl) (2 * n + 2) 1
   word_rows Tag place (Stray token) n is = refl
@@ -92,21 +75,6 @@ module _ (root : ℕ → List ℕ) (words : List Word) where
       map-append (entry_at words) (rows_of_word kind place (tokens_of root e)) (rows_of_kind kind (place + 1) (map (tokens_of root) es))
       ∙ (λ i. word_rows kind place e.0 e.1 here i ++ kind_rows kind (front ++ e.0 ∷ []) es (place + 1) next longer i)
       ∙ sym (map-append (with_identifier root) (numbered kind e.0 (first_number kind) (how_many kind e.0 e.1)) (of_kind kind es))
-
-  -- the place of each row's word is one
-  known_from : (kind : LabelKind) (place : ℕ) (key : List ℕ) (more from : ℕ) → place < length words → AreKnown words (rows_from kind place key from more)
-  known_from kind place key zero from within = tt
-  known_from kind place key (suc more) from within = (within, known_from kind place key more (from + 1) within)
-
-  known_both : (one other : List Row) → AreKnown words one → AreKnown words other → AreKnown words (one ++ other)
-  known_both [] other known rest = rest
-  known_both (row ∷ one) other known rest = (known.0, known_both one other known.1 rest)
-
-  known_kind : (kind : LabelKind) (tokens : List WordTokens) (place : ℕ) → place + length tokens ≤ length words → AreKnown words (rows_of_kind kind place tokens)
-  known_kind kind [] place within = tt
-  known_kind kind (one ∷ tokens) place within =
-      known_both (rows_of_word kind place one) (rows_of_kind kind (place + 1) tokens)
-      (known_from kind place (key_for kind one) (count_for kind one) (first_number kind) (omega arith)) (known_kind kind tokens (place + 1) (omega arith))
 
 labels_kept : (root : ℕ → List ℕ) (ls : List Label) → labels_alone (map (with_identifier root) ls) ≡ ls
 labels_kept root [] = refl
@@ -150,22 +118,14 @@ module _ (root : ℕ → List ℕ) (es : List (Word × ℕ)) where
   all_held rise =
       let many : length words_in ≡ length es = length-map es (λ e. e.0) in
       let as_many : length tokens_in ≡ length es = length-map es (tokens_of root) in
-      let known = λ (kind : LabelKind). known_kind root words_in kind tokens_in 0 (omega (arith, many, as_many)) in
+      let known = λ (kind : LabelKind). known_kind (length words_in) kind tokens_in 0 (omega (arith, many, as_many)) in
       record {
-        known = known_both root words_in (rows_of_kind Position 0 tokens_in) (rows_of_kind Anchor 0 tokens_in ++ rows_of_kind Tag 0 tokens_in) (known Position)
-            (known_both root words_in (rows_of_kind Anchor 0 tokens_in) (rows_of_kind Tag 0 tokens_in) (known Anchor) (known Tag));
+        known = known_both (length words_in) (rows_of_kind Position 0 tokens_in) (rows_of_kind Anchor 0 tokens_in ++ rows_of_kind Tag 0 tokens_in) (known Position)
+            (known_both (length words_in) (rows_of_kind Anchor 0 tokens_in) (rows_of_kind Tag 0 tokens_in) (known Anchor) (known Tag));
         rising = subst IsInOrder (sym all_rows) (subst (IsStrictlySortedBy label_cmp) (sym (labels_kept root (labels_in es))) (labels_in_sorted es (sorted_from es rise)));
       }
 
--- ---- from what was made step by step
-pub numbers_more : (old now : List Row) (kind : LabelKind) (word : ℕ) (key : List ℕ) (first number : ℕ) (identifier : List ℕ) → first ≤ number
-    → identifier ≡ identifier_under kind key number → now ≡ old ++ rows_from kind word key first (number - first)
-    → now ++ record { kind = kind; word = word; number = number; identifier = identifier } ∷ [] ≡ old ++ rows_from kind word key first ((number + 1) - first)
-numbers_more old now kind word key first number identifier low is are =
-    (λ i. are i ++ record { kind = kind; word = word; number = number; identifier = is i } ∷ [])
-    ∙ append_assoc old (rows_from kind word key first (number - first)) (row_for kind word key number ∷ [])
-    ∙ ap (λ rows. old ++ rows) (rows_next kind word key first number low)
-
+-- ---- from what was made
 module _ (root : ℕ → List ℕ) (es : List (Word × ℕ)) (words : List Word) (rows : List Row) (tokens : List WordTokens)
     (words_are : words ≡ map (λ e. e.0) es) (tokens_are : tokens ≡ map (tokens_of root) es) (rows_are_all : rows ≡ rows_of_all tokens) where
   made_rows : rows ≡ rows_of_all (map (tokens_of root) es)

@@ -8,7 +8,7 @@ use Rattle.qe_tokens.specs.declared.words.LabelKind.TheVariants.{Position}
 use Rattle.qe_tokens.specs.declared.words.Word.{Word}
 use Rattle.qe_tokens.specs.declared.words.Word.TheVariants.{Stray}
 use Rattle.qe_labels.specs.Clashes.{first_clash, first_repeat, key_of, pair_at, same_key}
-use Rattle.qe_label_list.specs.declared.row.Row.{Row}
+use Rattle.qe_label_rows.specs.declared.row.Row.{Row}
 use Rattle.qe_label_list.specs.Keys.{key_at}
 use Rattle.qe_label_list.specs.Rows.{entries_of}
 use Rattle.qe_label_list.proofs.FirstLemmas.{repeat_found}

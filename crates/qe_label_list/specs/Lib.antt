@@ -4,5 +4,4 @@ pub mod Keys
 pub mod Roots
 pub mod Tokens
 pub mod Kept
-pub mod Made
 pub mod Laws

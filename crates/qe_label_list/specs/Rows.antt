@@ -4,7 +4,7 @@ use Rattle.std.specs.List.{AllByRecursion}
 use Rattle.qe_tokens.specs.declared.words.Label.{Label}
 use Rattle.qe_tokens.specs.declared.words.Word.{Word}
 use Rattle.qe_tokens.specs.declared.words.Word.TheVariants.{Stray}
-use Rattle.qe_label_list.specs.declared.row.Row.{Row}
+use Rattle.qe_label_rows.specs.declared.row.Row.{Row}
 use Rattle.qe_label_list.specs.Order.{IsInOrder}
 
 abbrev pub word_at : List Word → ℕ → Word

@@ -5,8 +5,8 @@ ghost use Rattle.qe_tokens.specs.Labels.{is_tag};
 ghost use Rattle.qe_labels.specs.Clashes.{first_repeat, same_key};
 ghost use Rattle.qe_label_list.specs.Keys.{key_at};
 
-use crate::row::Row;
 use qe_base::NoMemory;
+use qe_label_rows::Row;
 use qe_tokens::LabelKind;
 use std::alloc::Global;
 use std::collections::HashMap;

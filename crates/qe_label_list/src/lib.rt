@@ -5,8 +5,8 @@
 //! let clash = list.clash()?; // the first two labels whose rows, or whose tags, can't be told apart
 //! ```
 //!
-//! A `LabelList` keeps each word once. Identifiers are made kind by kind, and each word's keys are derived once. `laws` says
-//! which clash is the first. Read: order, list, clash, laws, tokens, making.
+//! A `LabelList` keeps each word once. Each word's tokens are derived once, and qe_label_rows makes the identifiers under
+//! them. `laws` says which clash is the first. Read: order, list, clash, laws, tokens, making.
 #![tactic(auto)]
 
 mod clash;
@@ -15,7 +15,6 @@ mod laws;
 mod list;
 mod making;
 mod order;
-mod row;
 mod tokens;
 
 pub use laws::{a_list_without_a_clash_has_none, the_first_clash_is_the_least};

@@ -6,8 +6,8 @@ ghost use Rattle.qe_labels.specs.Clashes.{first_clash};
 ghost use Rattle.qe_label_list.specs.Order.{IsInOrder};
 
 use crate::clash::first_repeat_of;
-use crate::row::Row;
 use qe_base::{Duplicate, NoMemory};
+use qe_label_rows::Row;
 use qe_tokens::{Label, Word};
 use std::alloc::Global;
 use std::marker::Model;

@@ -1,23 +1,20 @@
 //! The labels of words, from how often each was indexed.
 
-ghost use Rattle.std.specs.Prelude.{◌≡◌, ◌-◌, ◌<◌, ℕ, List, ◌++◌, map, length, IfOk, OnOk};
+ghost use Rattle.std.specs.Prelude.{◌≡◌, List, map, length, IfOk};
 ghost use Rattle.std.specs.List.Sorted.{IsStrictlySortedBy};
-ghost use Rattle.qe_seal.specs.HmacKey.{IsKeyedBy};
 ghost use Rattle.qe_tokens.specs.declared.tokens.RootKey.{RootKey};
 ghost use Rattle.qe_labels.specs.Clashes.{with_identifier};
 ghost use Rattle.qe_labels.specs.Listed.{labels_in};
 ghost use Rattle.qe_labels.specs.Numbers.{word_cmp};
-ghost use Rattle.qe_label_list.specs.Made.{identifier_under, rows_from, rows_of_all, rows_of_kind, rows_of_word};
 ghost use Rattle.qe_label_list.specs.Roots.{AreWithin, root_in};
 ghost use Rattle.qe_label_list.specs.Tokens.{AreOfFields, tokens_of};
 
 use crate::LabelList;
 use crate::kept::Kept;
-use crate::row::Row;
-use crate::tokens::{FieldKeys, WordTokens, end_number, stray_tokens};
+use crate::tokens::{FieldKeys, end_number, stray_tokens};
 use qe_base::NoMemory;
-use qe_seal::HmacKey;
-use qe_tokens::{LabelKind, RootKey, Word};
+use qe_label_rows::{WordTokens, rows_of};
+use qe_tokens::{RootKey, Word};
 use std::alloc::Global;
 
 // The keys of each field.
@@ -59,84 +56,6 @@ fn word_tokens(
         }
     }
     Ok(tokens)
-}
-
-// The identifier of a label of a kind under its word's key.
-fn identifier(kind: LabelKind, key: &HmacKey, number: u64) -> [u8; 32]
-    ensures { (bytes : List ℕ) → IsKeyedBy key.now bytes → result ≡ identifier_under kind bytes number }
-{
-    match kind {
-        LabelKind::Position | LabelKind::Tag => key.prf1(number),
-        LabelKind::Anchor => key.prf2(0, number),
-    }
-}
-
-// Adds the rows of a word's numbers from the first up to the end.
-fn push_numbers(
-    rows: &mut Vec<Row>,
-    kind: LabelKind,
-    word: usize,
-    key: &[u8; 32],
-    first: u64,
-    end: u64,
-) -> Result<(), NoMemory>
-    ensures { OnOk result (rows.new.items ≡ rows.old.items ++ rows_from kind word key.now first (end - first)) }
-{
-    let state = HmacKey::new(key);
-    for number in first..end {
-        rows.push(Row {
-            kind,
-            word,
-            number,
-            identifier: identifier(kind, &state, number),
-        })?;
-    }
-    Ok(())
-}
-
-// Adds a word's rows of a kind.
-fn push_word(
-    rows: &mut Vec<Row>,
-    kind: LabelKind,
-    word: usize,
-    tokens: &WordTokens,
-) -> Result<(), NoMemory>
-    ensures { OnOk result (rows.new.items ≡ rows.old.items ++ rows_of_word kind word tokens.now) }
-{
-    match kind {
-        LabelKind::Position => push_numbers(rows, kind, word, &tokens.rows, 1, tokens.end),
-        LabelKind::Anchor => push_numbers(rows, kind, word, &tokens.rows, 0, tokens.end),
-        LabelKind::Tag if tokens.has_tags => push_numbers(
-            rows,
-            kind,
-            word,
-            &tokens.tags,
-            1,
-            tokens.end,
-        ),
-        LabelKind::Tag => Ok(()),
-    }
-}
-
-// Adds all rows of a kind.
-fn push_kind(rows: &mut Vec<Row>, kind: LabelKind, words: &[WordTokens]) -> Result<(), NoMemory>
-    ensures { OnOk result (rows.new.items ≡ rows.old.items ++ rows_of_kind kind 0 words.now) }
-{
-    for (place, tokens) in words.iter().enumerate() {
-        push_word(rows, kind, place, tokens)?;
-    }
-    Ok(())
-}
-
-// All rows: positions, then anchors, then tags.
-fn rows_of(alloc: Global, words: &[WordTokens]) -> Result<Vec<Row>, NoMemory>
-    ensures { IfOk result (λ rows. rows.items ≡ rows_of_all words.now) }
-{
-    let mut rows = Vec::new(alloc);
-    push_kind(&mut rows, LabelKind::Position, words)?;
-    push_kind(&mut rows, LabelKind::Anchor, words)?;
-    push_kind(&mut rows, LabelKind::Tag, words)?;
-    Ok(rows)
 }
 
 // The words alone.

@@ -1,11 +1,12 @@
 //! What is derived once: the keys of a field, of an item, and of a word.
 
 ghost use Rattle.std.specs.Prelude.{◌≡◌, ◌<◌, ◌+◌, ◌*◌, ℕ, List, length, replicate, true, false, IfOk, ◌^◌};
-ghost use Rattle.qe_tokens.specs.Tokens.{edc_contention_of, edc_derived_of, edc_of, edc_twice_of, esc_contention_of, esc_derived_of, esc_of, esc_tag_of, collections_of};
+ghost use Rattle.qe_tokens.specs.Tokens.{collections_of, edc_contention_of, edc_derived_of, edc_of, esc_contention_of, esc_derived_of, esc_of};
 
 use qe_base::NoMemory;
+use qe_label_rows::WordTokens;
 use qe_seal::HmacKey;
-use qe_tokens::{EdcContention, EscContention, RootKey, collections, edc, edc_twice, esc, esc_tag};
+use qe_tokens::{RootKey, collections, edc, esc};
 
 /// A word is indexed less often than this.
 const MOST: u64 = 1 << 62;
@@ -22,15 +23,6 @@ pub(crate) struct FieldKeys {
 pub(crate) struct ItemKeys {
     pub rows: HmacKey,
     pub tags: HmacKey,
-}
-
-/// The keys of a word's identifiers: those of its rows, and of its tags where it has them; and the number behind its last one.
-#[derive(Clone, Copy)]
-pub(crate) struct WordTokens {
-    pub rows: [u8; 32],
-    pub tags: [u8; 32],
-    pub has_tags: bool,
-    pub end: u64,
 }
 
 impl FieldKeys {
@@ -64,17 +56,15 @@ impl ItemKeys {
     // Of the item's word under a contention factor.
     pub(crate) fn word(&self, contention: u64, end: u64) -> WordTokens
         ensures rows { (root item : List ℕ) → IsOfItem self.now root item
-            → result.rows ≡ esc_tag_of (esc_contention_of (esc_derived_of (esc_of (collections_of root)) item) contention) }
+            → result.rows ≡ esc_contention_of (esc_derived_of (esc_of (collections_of root)) item) contention }
         ensures tags { (root item : List ℕ) → IsOfItem self.now root item
-            → result.tags ≡ edc_twice_of (edc_contention_of (edc_derived_of (edc_of (collections_of root)) item) contention) }
+            → result.tags ≡ edc_contention_of (edc_derived_of (edc_of (collections_of root)) item) contention }
         ensures has_tags { result.has_tags ≡ true }
         ensures end { result.end ≡ end }
     {
-        let rows = esc_tag(&EscContention(self.rows.prf1(contention))).0;
-        let tags = edc_twice(&EdcContention(self.tags.prf1(contention))).0;
         WordTokens {
-            rows,
-            tags,
+            rows: self.rows.prf1(contention),
+            tags: self.tags.prf1(contention),
             has_tags: true,
             end,
         }
@@ -83,14 +73,13 @@ impl ItemKeys {
 
 // Of a stray word, which is a token of rows itself and has no tags.
 pub(crate) fn stray_tokens(token: &[u8; 32], end: u64) -> WordTokens
-    ensures rows { result.rows ≡ esc_tag_of token.now }
+    ensures rows { result.rows ≡ token.now }
     ensures tags { result.tags ≡ replicate 32 0 }
     ensures has_tags { result.has_tags ≡ false }
     ensures end { result.end ≡ end }
 {
-    let rows = esc_tag(&EscContention(*token)).0;
     WordTokens {
-        rows,
+        rows: *token,
         tags: [0; 32],
         has_tags: false,
         end,

@@ -1,7 +1,7 @@
 use Rattle.std.proofs.Common.{◌≡◌, ℕ, List, map, length, sym, ap, ◌∙◌, subst}
 use Rattle.qe_tokens.specs.declared.words.Word.{Word}
 use Rattle.qe_label_list.specs.declared.tokens.FieldKeys.{FieldKeys}
-use Rattle.qe_label_list.specs.Made.{rows_of_all}
+use Rattle.qe_label_rows.specs.Made.{rows_of_all}
 use Rattle.qe_label_list.specs.Roots.{AreWithin, root_in}
 use Rattle.qe_label_list.specs.Tokens.{AreOfFields, tokens_of}
 use Rattle.qe_label_list.proofs.FieldLemmas.{fields_many}

@@ -1,7 +1,7 @@
 use Rattle.std.proofs.Common.{◌≡◌, List, map, None, Some, sym, ap, ◌∙◌}
 use Rattle.qe_labels.specs.Clashes.{first_repeat, same_key}
 use Rattle.qe_label_list.specs.Keys.{key_at}
-use Rattle.qe_label_list.specs.declared.row.Row.{Row}
+use Rattle.qe_label_rows.specs.declared.row.Row.{Row}
 use Rattle.qe_label_list.proofs.PairLemmas.{found_within, the_none, the_pair}
 use Rattle.qe_label_list.proofs.list.LabelList.clash.Goals as goal
 
