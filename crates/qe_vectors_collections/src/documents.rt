@@ -1,64 +1,101 @@
 //! Documents, found by number, by id and by tags.
 
-use crate::line::{Fault, Spaced, Word, bytes_of, number_of};
-use qe_base::{Duplicate, NoMemory, Numbers, Tags};
+use crate::line::{Word, bytes_of, numbers_of, print_numbers};
+use qe_base::{Duplicate, NoMemory, Tags};
 use qe_document::Value;
+use qe_line::{Fault, print_line};
 use qe_store::{Store, Stored, StoredCells, TermSet, TermSets};
 use std::alloc::Global;
 
 /// Carries the words of a line out: `i` inserts a document of an id and tags, `r` replaces the tags of a number's
 /// document, `x` removes it, `a` prints its tags, `n` the number of an id; `k` and `s` name an id and tags that `m` looks
 /// for; `c` goes on with a copy. An id is 0 and an int32, or 1 and an int64.
-pub fn print(rt: &(impl Print + AllocGlobal), words: &[Word<'_>]) -> Result<(), Fault> {
+pub fn print(rt: &HostRuntime, words: &[Word<'_>]) -> Result<(), Fault> {
     let mut store = Store::new(rt.alloc());
     let mut terms = TermSets::new(rt.alloc());
     for word in words {
-        match word.kind {
-            "c" => {
-                let copy = store.copy()?;
-                store = copy;
-            }
-            "m" => {
-                let numbers = store.matching(&terms)?;
-                println!(rt; "matching{}", Spaced(numbers.slice()))?;
-                terms = TermSets::new(rt.alloc());
-            }
-            "k" => terms.push(TermSet::Id(id_of(word)?))?,
-            "s" => terms.push(TermSet::Tags(tags_of(rt.alloc(), word.numbers_from(0))?))?,
-            _ => carry_out(rt, &mut store, word)?,
-        }
+        carry_out(rt, &mut store, &mut terms, word)?;
     }
     Ok(())
 }
 
 fn carry_out(
-    rt: &(impl Print + AllocGlobal),
+    rt: &HostRuntime,
     store: &mut Store,
+    terms: &mut TermSets,
     word: &Word<'_>,
 ) -> Result<(), Fault> {
     match word.kind {
-        "store" => {}
-        "i" => {
-            let stored = document_of(rt.alloc(), id_of(word)?, word.numbers_from(2))?;
-            let made = store.made();
-            println!(rt; "insert {made} {}", insert(store, stored)?)?;
-        }
-        "r" => {
-            let tags = tags_of(rt.alloc(), word.numbers_from(1))?;
-            println!(rt;
-                "replace {}",
-                replace(rt.alloc(), store, word.number(0)?, tags)?
-            )?;
-        }
-        "x" => store.remove(word.number(0)?),
-        "a" => print_tags(rt, store, word.number(0)?)?,
-        "n" => match store.number_of(&id_of(word)?) {
-            Some(number) => println!(rt; "number {number}")?,
-            None => println!(rt; "no number")?,
-        },
-        _ => return Err(Fault::Refused),
+        "m" => print_matching(rt, store, terms),
+        "k" => push_id(terms, word),
+        "s" => push_tags(rt.alloc(), terms, word),
+        "a" => print_tags(rt, store, word.number(0)?),
+        "n" => print_number(rt, store, word),
+        _ => change(rt, store, word),
     }
+}
+
+fn change(rt: &HostRuntime, store: &mut Store, word: &Word<'_>) -> Result<(), Fault> {
+    match word.kind {
+        "store" => Ok(()),
+        "c" => go_on_with_copy(store),
+        "i" => print_inserted(rt, store, word),
+        "r" => print_replaced(rt, store, word),
+        "x" => remove(store, word),
+        _ => Err(Fault::Refused),
+    }
+}
+
+fn go_on_with_copy(store: &mut Store) -> Result<(), Fault> {
+    let copy = store.copy()?;
+    *store = copy;
     Ok(())
+}
+
+fn remove(store: &mut Store, word: &Word<'_>) -> Result<(), Fault> {
+    store.remove(word.number(0)?);
+    Ok(())
+}
+
+// What the conditions look for, of which none is left.
+fn print_matching(rt: &HostRuntime, store: &Store, terms: &mut TermSets) -> Result<(), Fault> {
+    print_numbers(rt, "matching", store.matching(terms)?.slice())?;
+    *terms = TermSets::new(rt.alloc());
+    Ok(())
+}
+
+fn push_id(terms: &mut TermSets, word: &Word<'_>) -> Result<(), Fault> {
+    terms.push(TermSet::Id(id_of(word)?))?;
+    Ok(())
+}
+
+fn push_tags(alloc: Global, terms: &mut TermSets, word: &Word<'_>) -> Result<(), Fault> {
+    terms.push(TermSet::Tags(tags_of(alloc, word.numbers_from(0))?))?;
+    Ok(())
+}
+
+fn print_number(rt: &HostRuntime, store: &Store, word: &Word<'_>) -> Result<(), Fault> {
+    match number_of_id(store, word)? {
+        Some(number) => print_line(rt, format_args!("number {number}")),
+        None => print_line(rt, "no number"),
+    }
+}
+
+fn number_of_id(store: &Store, word: &Word<'_>) -> Result<Option<u64>, Fault> {
+    let id = id_of(word)?;
+    Ok(store.number_of(&id))
+}
+
+fn print_inserted(rt: &HostRuntime, store: &mut Store, word: &Word<'_>) -> Result<(), Fault> {
+    let made = store.made();
+    let stored = document_of(rt.alloc(), word)?;
+    let is_inserted = insert(store, stored)?;
+    print_line(rt, format_args!("insert {made} {is_inserted}"))
+}
+
+fn print_replaced(rt: &HostRuntime, store: &mut Store, word: &Word<'_>) -> Result<(), Fault> {
+    let is_replaced = replace(rt.alloc(), store, word)?;
+    print_line(rt, format_args!("replace {is_replaced}"))
 }
 
 // The id that the first two numbers stand for.
@@ -78,11 +115,11 @@ fn tags_of(alloc: Global, numbers: &[u64]) -> Result<Tags, NoMemory> {
     Ok(tags)
 }
 
-fn document_of(alloc: Global, id: Value, numbers: &[u64]) -> Result<Stored, NoMemory> {
+fn document_of(alloc: Global, word: &Word<'_>) -> Result<Stored, Fault> {
     Ok(Stored {
-        id,
+        id: id_of(word)?,
         cells: StoredCells::new(alloc),
-        tags: tags_of(alloc, numbers)?,
+        tags: tags_of(alloc, word.numbers_from(2))?,
     })
 }
 
@@ -97,7 +134,9 @@ fn insert(store: &mut Store, stored: Stored) -> Result<bool, NoMemory> {
 }
 
 // Whether there was a document to replace.
-fn replace(alloc: Global, store: &mut Store, number: u64, tags: Tags) -> Result<bool, NoMemory> {
+fn replace(alloc: Global, store: &mut Store, word: &Word<'_>) -> Result<bool, Fault> {
+    let number = word.number(0)?;
+    let tags = tags_of(alloc, word.numbers_from(1))?;
     let Some(old) = store.at(number) else {
         return Ok(false);
     };
@@ -111,15 +150,10 @@ fn replace(alloc: Global, store: &mut Store, number: u64, tags: Tags) -> Result<
     Ok(true)
 }
 
-fn print_tags(rt: &(impl Print + AllocGlobal), store: &Store, number: u64) -> Result<(), Fault> {
+fn print_tags(rt: &HostRuntime, store: &Store, number: u64) -> Result<(), Fault> {
     let Some(stored) = store.at(number) else {
-        println!(rt; "no document")?;
-        return Ok(());
+        return print_line(rt, "no document");
     };
-    let mut numbers = Numbers::new(rt.alloc());
-    for tag in stored.tags.slice() {
-        numbers.push(number_of(tag))?;
-    }
-    println!(rt; "document{}", Spaced(numbers.slice()))?;
-    Ok(())
+    let numbers = numbers_of(rt.alloc(), stored.tags.slice())?;
+    print_numbers(rt, "document", numbers.slice())
 }

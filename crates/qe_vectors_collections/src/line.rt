@@ -1,51 +1,9 @@
-//! The words of a line, and why they can't be carried out.
+//! The words of a line.
 
-ghost use Rattle.std.specs.Prelude.{◌≡◌};
-
-use qe_base::{NoMemory, Numbers, TakeFault};
-use std::alloc::{AllocError, AllocFailed, Global};
-use std::{fmt, io};
-
-/// Why the lines weren't carried out to their end.
-#[derive(Debug, Drop)]
-pub enum Fault {
-    /// There was no memory.
-    NoMemory,
-    /// The standard input or output failed.
-    Failed,
-    /// A line isn't one of words.
-    Refused,
-}
-
-impl From<NoMemory> for Fault {
-    fn from(_: NoMemory) -> Self {
-        Fault::NoMemory
-    }
-}
-
-impl From<AllocError> for Fault {
-    fn from(_: AllocError) -> Self {
-        Fault::NoMemory
-    }
-}
-
-impl<T: Drop> From<AllocFailed<T>> for Fault {
-    fn from(_: AllocFailed<T>) -> Self {
-        Fault::NoMemory
-    }
-}
-
-impl From<io::Error> for Fault {
-    fn from(_: io::Error) -> Self {
-        Fault::Failed
-    }
-}
-
-impl From<TakeFault> for Fault {
-    fn from(_: TakeFault) -> Self {
-        Fault::Failed
-    }
-}
+use qe_base::{Listing, NoMemory, Numbers};
+use qe_line::{Fault, print_line};
+use std::alloc::Global;
+use std::fmt;
 
 /// A word: a kind, and numbers behind commas.
 #[derive(Drop)]
@@ -75,11 +33,11 @@ impl Word<'_> {
 }
 
 /// The words of a line.
-pub fn words_of(alloc: Global, line: &[u8]) -> Result<Vec<Word<'_>>, Fault> {
+pub fn words_of(alloc: Global, line: &[u8]) -> Result<Listing<Word<'_>>, Fault> {
     let Ok(line) = str::from_utf8(line) else {
         return Err(Fault::Refused);
     };
-    let mut words = Vec::new(alloc);
+    let mut words = Listing::new(alloc);
     for word in line.split(' ') {
         words.push(word_of(alloc, word)?)?;
     }
@@ -95,11 +53,11 @@ fn word_of(alloc: Global, word: &str) -> Result<Word<'_>, Fault> {
     };
     Ok(Word {
         kind,
-        numbers: numbers_of(alloc, rest)?,
+        numbers: read_numbers(alloc, rest)?,
     })
 }
 
-fn numbers_of(alloc: Global, text: &str) -> Result<Numbers, Fault> {
+fn read_numbers(alloc: Global, text: &str) -> Result<Numbers, Fault> {
     let mut numbers = Numbers::new(alloc);
     for digits in text.split(',') {
         let Ok(number) = digits.parse::<u64>() else {
@@ -123,6 +81,11 @@ impl fmt::Display for Spaced<'_> {
     }
 }
 
+/// Prints a line: what they are, and numbers.
+pub fn print_numbers(rt: &HostRuntime, what: &str, numbers: &[u64]) -> Result<(), Fault> {
+    print_line(rt, format_args!("{what}{}", Spaced(numbers)))
+}
+
 /// The 32 bytes that stand for a number: little-endian, and zeros.
 pub fn bytes_of(number: u64) -> [u8; 32] {
     let mut bytes = [0; 32];
@@ -136,4 +99,13 @@ pub fn number_of(bytes: &[u8; 32]) -> u64 {
         Some(front) => u64::from_le_bytes(*front),
         None => 0,
     }
+}
+
+/// The numbers that such bytes stand for.
+pub fn numbers_of(alloc: Global, tags: &[[u8; 32]]) -> Result<Numbers, NoMemory> {
+    let mut numbers = Numbers::new(alloc);
+    for tag in tags {
+        numbers.push(number_of(tag))?;
+    }
+    Ok(numbers)
 }

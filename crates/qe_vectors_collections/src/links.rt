@@ -2,50 +2,57 @@
 
 ghost use Rattle.std.specs.Prelude.{◌≡◌, ◌<◌};
 
-use crate::line::{Fault, Spaced, Word, bytes_of, number_of};
-use qe_base::{NoMemory, Numbers, Steps};
+use crate::line::{Word, bytes_of, numbers_of, print_numbers};
+use qe_base::{NoMemory, Steps};
 use qe_chains::Chains;
-use std::alloc::Global;
+use qe_line::{Fault, print_line};
 use std::marker::Brand;
 use std::sync::ledger::{Blank, Ledger};
 
 /// Carries the words of a line out: `l` links a tag and a document, `u` unlinks a document, `t` and `d` print the
 /// documents of a tag and the tags of a document, `n` the number of nodes, `r` makes rounds of a document with so many
 /// tags, and `c` goes on with a copy.
-pub fn print(rt: &(impl Print + AllocGlobal), words: &[Word<'_>]) -> Result<(), Fault> {
+pub fn print(rt: &HostRuntime, words: &[Word<'_>]) -> Result<(), Fault> {
     let mut chains = Chains::new(rt.alloc());
     for word in words {
-        if word.kind == "c" {
-            let copy = chains.copy()?;
-            chains = copy;
-        }
         carry_out(rt, &mut chains, word)?;
     }
     Ok(())
 }
 
-fn carry_out(
-    rt: &(impl Print + AllocGlobal),
-    chains: &mut Chains,
-    word: &Word<'_>,
-) -> Result<(), Fault> {
+fn carry_out(rt: &HostRuntime, chains: &mut Chains, word: &Word<'_>) -> Result<(), Fault> {
     match word.kind {
-        "chains" | "c" => {}
-        "l" => link(chains, word.number(0)?, word.number(1)?)?,
-        "u" => print_unlinked(rt, chains, word.number(0)?)?,
-        "t" => {
-            let list = chains.with_tag(&bytes_of(word.number(0)?))?;
-            println!(rt; "documents{}", Spaced(list.slice()))?;
-        }
-        "d" => {
-            let list = tags_of(rt.alloc(), chains, word.number(0)?)?;
-            println!(rt; "tags{}", Spaced(list.slice()))?;
-        }
-        "n" => println!(rt; "nodes {}", chains.nodes())?,
-        "r" => rounds(chains, word.number(0)?, word.number(1)?)?,
-        _ => return Err(Fault::Refused),
+        "chains" => Ok(()),
+        "c" => go_on_with_copy(chains),
+        "l" => link_word(chains, word),
+        "u" => print_unlinked(rt, chains, word.number(0)?),
+        "t" => print_documents(rt, chains, word.number(0)?),
+        "d" => print_tags(rt, chains, word.number(0)?),
+        "n" => print_line(rt, format_args!("nodes {}", chains.nodes())),
+        "r" => rounds(chains, word),
+        _ => Err(Fault::Refused),
     }
+}
+
+fn go_on_with_copy(chains: &mut Chains) -> Result<(), Fault> {
+    let copy = chains.copy()?;
+    *chains = copy;
     Ok(())
+}
+
+fn link_word(chains: &mut Chains, word: &Word<'_>) -> Result<(), Fault> {
+    link(chains, word.number(0)?, word.number(1)?)?;
+    Ok(())
+}
+
+fn print_documents(rt: &HostRuntime, chains: &Chains, tag: u64) -> Result<(), Fault> {
+    let list = chains.with_tag(&bytes_of(tag))?;
+    print_numbers(rt, "documents", list.slice())
+}
+
+fn print_tags(rt: &HostRuntime, chains: &Chains, document: u64) -> Result<(), Fault> {
+    let list = numbers_of(rt.alloc(), chains.with_document(document)?.slice())?;
+    print_numbers(rt, "tags", list.slice())
 }
 
 fn link(chains: &mut Chains, tag: u64, document: u64) -> Result<(), NoMemory> {
@@ -54,24 +61,17 @@ fn link(chains: &mut Chains, tag: u64, document: u64) -> Result<(), NoMemory> {
     Ok(())
 }
 
-// The tags of a document, as numbers.
-fn tags_of(alloc: Global, chains: &Chains, document: u64) -> Result<Numbers, NoMemory> {
-    let mut list = Numbers::new(alloc);
-    for tag in chains.with_document(document)?.slice() {
-        list.push(number_of(tag))?;
-    }
-    Ok(list)
+// How many pairs a document had, and has.
+fn print_unlinked(rt: &HostRuntime, chains: &mut Chains, document: u64) -> Result<(), Fault> {
+    let before = pairs_of(chains, document)?;
+    unlink(chains, document);
+    let after = pairs_of(chains, document)?;
+    print_line(rt, format_args!("unlinked {before} {after}"))
 }
 
-// How many pairs a document had, and has.
-fn print_unlinked(rt: &impl Print, chains: &mut Chains, document: u64) -> Result<(), Fault> {
-    let before = chains.with_document(document)?.len();
-    unlink(chains, document);
-    println!(rt;
-        "unlinked {before} {}",
-        chains.with_document(document)?.len()
-    )?;
-    Ok(())
+fn pairs_of(chains: &Chains, document: u64) -> Result<usize, NoMemory> {
+    let tags = chains.with_document(document)?;
+    Ok(tags.len())
 }
 
 fn unlink(chains: &mut Chains, document: u64) {
@@ -86,7 +86,8 @@ fn unlink_on<L: Ledger>(chains: &mut Chains, document: u64, blank: Blank)
     chains.unlink_document(document, &mut Steps::<L>::new(blank));
 }
 
-fn rounds(chains: &mut Chains, rounds: u64, tags: u64) -> Result<(), NoMemory> {
+fn rounds(chains: &mut Chains, word: &Word<'_>) -> Result<(), Fault> {
+    let (rounds, tags) = (word.number(0)?, word.number(1)?);
     for _ in 0..rounds {
         round(chains, tags)?;
     }

@@ -14,28 +14,33 @@ mod line;
 mod links;
 mod searches;
 
-use line::{Fault, Word, words_of};
+use line::{Word, words_of};
 use qe_base::{Lines, StdSource, take_all};
+use qe_line::Fault;
 
 fn main(rt: HostRuntime) -> Result<(), Fault> {
     let text = take_all(rt.alloc(), &mut StdSource::new(&rt))?;
     let mut lines = Lines::of(text.slice());
     while let Some((_, line)) = lines.next_line() {
-        print_line(&rt, line)?;
+        carry_out(&rt, line)?;
     }
     Ok(())
 }
 
-fn print_line(rt: &(impl Print + AllocGlobal), line: &[u8]) -> Result<(), Fault> {
+fn carry_out(rt: &HostRuntime, line: &[u8]) -> Result<(), Fault> {
     let words = words_of(rt.alloc(), line)?;
-    let Some(first) = words.as_slice().first() else {
+    print_answers(rt, words.slice())
+}
+
+fn print_answers(rt: &HostRuntime, words: &[Word<'_>]) -> Result<(), Fault> {
+    let Some(first) = words.first() else {
         return Ok(());
     };
     match first.kind {
         "" => Ok(()),
-        "rows" => searches::print(rt, first.number(0)?, words.as_slice()),
-        "chains" => links::print(rt, words.as_slice()),
-        "store" => documents::print(rt, words.as_slice()),
+        "rows" => searches::print(rt, first.number(0)?, words),
+        "chains" => links::print(rt, words),
+        "store" => documents::print(rt, words),
         _ => Err(Fault::Refused),
     }
 }

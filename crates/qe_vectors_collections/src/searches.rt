@@ -1,19 +1,21 @@
 //! Rows of one token, and what searches find among them.
 
+ghost use Rattle.std.specs.Prelude.{◌≡◌, ◌<◌, false};
+ghost use Rattle.qe_esc.specs.Rows.{has};
+
 use crate::counted::Counted;
-use crate::line::{Fault, Word, bytes_of};
+use crate::line::{Spaced, Word, bytes_of};
 use qe_base::NoMemory;
-use qe_esc::{Changes, Esc, Overlay, RowKey, RowKind, RowView, emu_of, plan_anchor, plan_position};
+use qe_esc::{
+    Changes, Emu, Esc, Overlay, RowKey, RowKind, RowView, emu_of, plan_anchor, plan_position,
+};
+use qe_line::{Fault, print_line};
 use qe_tokens::EscContention;
 use std::cell::Cell;
 
 /// Carries the words of a line out: `p` and `x` add and take out positions from one number to another, `a` and `b` add
 /// an anchor with and without numbers, `s` searches, `w` searches among rows as they will be, and then as they are.
-pub fn print(
-    rt: &(impl Print + AllocGlobal),
-    number: u64,
-    words: &[Word<'_>],
-) -> Result<(), Fault> {
+pub fn print(rt: &HostRuntime, number: u64, words: &[Word<'_>]) -> Result<(), Fault> {
     let token = EscContention(bytes_of(number));
     let key = RowKey::new(&token);
     let mut esc = Esc::new(rt.alloc());
@@ -24,7 +26,7 @@ pub fn print(
 }
 
 fn carry_out(
-    rt: &(impl Print + AllocGlobal),
+    rt: &HostRuntime,
     esc: &mut Esc,
     key: &RowKey,
     token: &EscContention,
@@ -32,83 +34,102 @@ fn carry_out(
 ) -> Result<(), Fault> {
     match word.kind {
         "rows" => Ok(()),
-        "p" => add_positions(esc, key, word.number(0)?, word.number(1)?),
-        "x" => take_positions(esc, key, word.number(0)?, word.number(1)?),
-        "a" => {
-            let value = key.null_value(&[9; 16], word.number(1)?, word.number(2)?);
-            add(esc, key.id(RowKind::Anchor, word.number(0)?), Some(value))
-        }
-        "b" => add(esc, key.id(RowKind::Anchor, word.number(0)?), None),
+        "p" => add_positions(esc, key, word),
+        "x" => take_positions(esc, key, word),
+        "a" => add_null(esc, key, word),
+        "b" => add_anchor(esc, key, word),
         "s" => print_found(rt, esc, token, esc),
         "w" => print_planned(rt, esc, key, token, word),
         _ => Err(Fault::Refused),
     }
 }
 
-fn add_positions(esc: &mut Esc, key: &RowKey, first: u64, last: u64) -> Result<(), Fault> {
-    for number in first..last.saturating_add(1) {
+fn add_positions(esc: &mut Esc, key: &RowKey, word: &Word<'_>) -> Result<(), Fault> {
+    for number in word.number(0)?..word.number(1)?.saturating_add(1) {
         add(esc, key.id(RowKind::Position, number), None)?;
     }
     Ok(())
 }
 
-fn take_positions(esc: &mut Esc, key: &RowKey, first: u64, last: u64) -> Result<(), Fault> {
-    for number in first..last.saturating_add(1) {
+fn take_positions(esc: &mut Esc, key: &RowKey, word: &Word<'_>) -> Result<(), Fault> {
+    for number in word.number(0)?..word.number(1)?.saturating_add(1) {
         esc.remove(&key.id(RowKind::Position, number));
     }
     Ok(())
 }
 
+fn add_null(esc: &mut Esc, key: &RowKey, word: &Word<'_>) -> Result<(), Fault> {
+    let value = key.null_value(&[9; 16], word.number(1)?, word.number(2)?);
+    add(esc, key.id(RowKind::Anchor, word.number(0)?), Some(value))?;
+    Ok(())
+}
+
+fn add_anchor(esc: &mut Esc, key: &RowKey, word: &Word<'_>) -> Result<(), Fault> {
+    add(esc, key.id(RowKind::Anchor, word.number(0)?), None)?;
+    Ok(())
+}
+
 // Adds a row, unless its identifier has one.
-fn add(esc: &mut Esc, id: [u8; 32], value: Option<[u8; 32]>) -> Result<(), Fault> {
+fn add(esc: &mut Esc, id: [u8; 32], value: Option<[u8; 32]>) -> Result<(), NoMemory> {
     esc.reserve(1)?;
-    if esc.has(&id) {
-        return Ok(());
-    }
-    match value {
-        Some(value) => esc.put_anchor(id, value),
-        None => esc.add_position(id),
+    if !esc.has(&id) {
+        put(esc, id, value);
     }
     Ok(())
 }
 
+fn put(esc: &mut Esc, id: [u8; 32], value: Option<[u8; 32]>)
+    requires new { has esc.old.rows id ≡ false }
+    requires room { 0 < esc.old.spare }
+{
+    match value {
+        Some(value) => esc.put_anchor(id, value),
+        None => esc.add_position(id),
+    }
+}
+
 // Plans a position, an anchor that counts it, and that the position before it goes.
-fn plan(
-    esc: &Esc,
-    changes: &mut Changes,
-    key: &RowKey,
-    position: u64,
-    anchor: u64,
-) -> Result<(), NoMemory> {
+fn plan(esc: &Esc, changes: &mut Changes, key: &RowKey, word: &Word<'_>) -> Result<(), Fault> {
+    let (position, anchor) = (word.number(0)?, word.number(1)?);
     plan_position(esc, changes, key.id(RowKind::Position, position))?;
     let value = key.anchor_value(&[5; 16], position);
     plan_anchor(esc, changes, key.id(RowKind::Anchor, anchor), value)?;
-    changes.write(key.id(RowKind::Position, position.wrapping_sub(1)), None)
+    changes.write(key.id(RowKind::Position, position.wrapping_sub(1)), None)?;
+    Ok(())
 }
 
 fn print_planned(
-    rt: &(impl Print + AllocGlobal),
+    rt: &HostRuntime,
     esc: &mut Esc,
     key: &RowKey,
     token: &EscContention,
     word: &Word<'_>,
 ) -> Result<(), Fault> {
     let mut changes = Changes::new(rt.alloc());
-    plan(esc, &mut changes, key, word.number(0)?, word.number(1)?)?;
-    let overlay = Overlay {
-        rows: &*esc,
-        changes: &changes,
-    };
-    print_found(rt, &overlay, token, esc)?;
-    esc.reserve(changes.len())?;
-    changes.apply(esc);
+    plan(esc, &mut changes, key, word)?;
+    print_overlaid(rt, esc, &changes, token)?;
+    apply(esc, &changes)?;
     print_found(rt, esc, token, esc)
 }
 
-// A line: the null anchor, the anchors behind it, the positions counted, those behind them, the rows looked for, and
-// how many rows there are, and how many of them without a value.
+fn print_overlaid(
+    rt: &HostRuntime,
+    esc: &Esc,
+    changes: &Changes,
+    token: &EscContention,
+) -> Result<(), Fault> {
+    let overlay = Overlay { rows: esc, changes };
+    print_found(rt, &overlay, token, esc)
+}
+
+fn apply(esc: &mut Esc, changes: &Changes) -> Result<(), NoMemory> {
+    esc.reserve(changes.len())?;
+    changes.apply(esc);
+    Ok(())
+}
+
 fn print_found(
-    rt: &impl Print,
+    rt: &HostRuntime,
     rows: &impl RowView,
     token: &EscContention,
     esc: &Esc,
@@ -119,9 +140,21 @@ fn print_found(
         probes: &probes,
     };
     let found = emu_of(&counted, token);
-    let (null, apos, cpos) = (found.has_null, found.null_apos, found.null_cpos);
-    let (hop, base, count) = (found.hop, found.base, found.count);
-    let (probes, rows, bare) = (probes.get(), esc.len(), esc.positions()?.len());
-    println!(rt; "{null} {apos} {cpos} {hop} {base} {count} {probes} {rows} {bare}")?;
-    Ok(())
+    print_emu(rt, &found, probes.get(), esc)
+}
+
+// A line: the null anchor, the anchors behind it, the positions counted, those behind them, the rows looked for, and
+// how many rows there are, and how many of them without a value.
+fn print_emu(rt: &HostRuntime, found: &Emu, probes: u64, esc: &Esc) -> Result<(), Fault> {
+    let numbers = [
+        found.null_apos,
+        found.null_cpos,
+        found.hop,
+        found.base,
+        found.count,
+        probes,
+        esc.len(),
+        esc.positions()?.len() as u64,
+    ];
+    print_line(rt, format_args!("{}{}", found.has_null, Spaced(&numbers)))
 }
