@@ -1,0 +1,11 @@
+pub mod CellReads
+pub mod CellSound
+pub mod CommandReads
+pub mod CountedLemmas
+pub mod EdgeCounts
+pub mod FitLemmas
+pub mod PartLemmas
+pub mod ReadLemmas
+pub mod SentWhole
+pub mod SlotLemmas
+pub mod TermReads
