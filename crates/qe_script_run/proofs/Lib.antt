@@ -1,0 +1,5 @@
+pub mod FoldLemmas
+pub mod ClientLemmas
+pub mod LineLemmas
+pub mod NextLemmas
+pub mod ReachedLemmas
