@@ -1,5 +1,6 @@
--- The line that ends the text of a run: how many labels the run has, how many rows the server keeps for positions and anchors,
--- how many rows the next compaction or cleanup reads, and the SHA-256 of the dump in hex.
+-- The line that ends the text of a run: how many labels the run has; how many ESC rows the server keeps, which are those for
+-- positions and anchors; how many ECOC rows, none of which is an ESC row, the next compaction or cleanup reads; and the SHA-256
+-- of the dump in hex.
 use Rattle.std.specs.Prelude.{ℕ, List, [], ◌∷◌, ◌++◌, length, codes}
 use Rattle.std.specs.Fmt.{decimal}
 use Rattle.std.specs.FinMap.{len}

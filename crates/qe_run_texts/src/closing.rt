@@ -24,8 +24,9 @@ fn counts_line(
     Bytes::from_slice(alloc, line.as_bytes())
 }
 
-/// The line `end labels N esc E ecoc C digest H` of an engine, where a run has `labels` labels: the rows for positions and
-/// anchors, the rows that the next compaction or cleanup reads, none of which is aside, and the SHA-256 of the dump.
+/// The line `end labels N esc E ecoc C digest H` of an engine, where a run has `labels` labels: E ESC rows, which
+/// are those for positions and anchors; C ECOC rows, which the next compaction or cleanup reads, none of them an ESC row or
+/// aside; and the SHA-256 of the dump.
 #[tactic(auto, unfolding(crate::specs::Closing::closing_line))]
 pub fn closing_line(alloc: Global, engine: &Engine, labels: usize) -> Result<Bytes, NoMemory>
     ensures { IfOk result (λ line. line ≡ closing.closing_line engine.now.schema (state_now engine.now) labels) }

@@ -1,0 +1,3 @@
+mod LabelLemmas
+mod PrintedLemmas
+mod DueLemmas
