@@ -1,14 +1,11 @@
-//! Prints what `show` answers of blobs, and `read_script` of scripts: `stdout` holds what independent programs answer.
-//! Read: line, shown_blobs, scripts.
+//! Prints what `show` answers of blobs: `stdout` holds what independent programs answer. Read: fault, shown_blobs.
 #![tactic(auto)]
 
-mod line;
-mod scripts;
+mod fault;
 mod shown_blobs;
 
-use line::Fault;
+use fault::Fault;
 
 fn main(rt: HostRuntime) -> Result<(), Fault> {
-    shown_blobs::print(&rt)?;
-    scripts::print(&rt)
+    shown_blobs::print(&rt)
 }

@@ -1,6 +1,6 @@
 //! Blobs as lines of text.
 
-use crate::line::Fault;
+use crate::fault::Fault;
 use qe_show::{ShowFault, show};
 
 // A find of an equality.

@@ -1,10 +1,1 @@
-pub mod ApartLemmas
-pub mod DrawLemmas
-pub mod FoundLemmas
-pub mod OpeningLemmas
 pub mod OutcomeLemmas
-pub mod RunLemmas
-pub mod StandsLemmas
-pub mod StepLemmas
-pub mod TextLemmas
-pub mod ValueLemmas

@@ -1,11 +1,1 @@
-pub mod Client
-pub mod Draws
-pub mod Ending
-pub mod Opening
-pub mod Plain
-pub mod Server
-pub mod Stored
-pub mod Task
-pub mod Text
 pub mod Top
-pub mod Words

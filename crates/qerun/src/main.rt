@@ -1,25 +1,12 @@
-//! `qerun` runs scripts of Queryable Encryption, by a client that holds the keys and a server that sees tokens alone, and
-//! shows what is in blobs.
+//! `qerun` runs scripts of Queryable Encryption, by clients that hold the keys and a server that sees tokens alone, shows
+//! what is in blobs, and makes scripts to try it on.
 //!
-//! `replay` is the one call: its contract says that the replies are those of a plain list of documents, and that the
-//! lines show the blobs. Read: top, task, run, client, server; the definitions in `specs/` stand in the same order.
+//! `replay` (top) is the one call: its contract says what each status means, and that the replies are those of a plain list of
+//! documents. `specs/Top.antt` has its words; what is due is qe_due's.
 #![tactic(auto)]
 
-mod answer;
-mod bytes;
-mod client;
-mod document;
-mod draws;
-mod opening;
-mod reply;
-mod request;
-mod run;
-mod server;
-mod stored;
-mod task;
 #[cfg(test)]
 mod tests;
-mod texts;
 mod top;
 
 use qe_base::{NoMemory, Status, StdSink, StdSource};

@@ -1,0 +1,5 @@
+pub mod Due
+pub mod Ending
+pub mod Laws
+pub mod Status
+pub mod Text

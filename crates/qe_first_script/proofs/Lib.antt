@@ -1,3 +1,0 @@
-pub mod FormLemmas
-pub mod Int32Lemmas
-pub mod ScriptLemmas

@@ -1,4 +1,0 @@
-pub mod Forms
-pub mod Header
-pub mod Lines
-pub mod Script
