@@ -11,7 +11,7 @@ use Rattle.qe_bson.specs.JsonReading.{then, value_at, items_at, fields_at}
 use Rattle.qe_bson.specs.JsonRound.{typed, ordered, levels}
 use Rattle.qe_value.specs.Measures.{all_true, greatest}
 use Rattle.qe_bson.specs.JsonWriting.{all_of, json_of}
-use Rattle.qe_bson.proofs.JsonFormLemmas.{both}
+use Rattle.qe_json_forms.proofs.FormLemmas.{both}
 use Rattle.qe_bson.proofs.JsonReadLemmas.{gave}
 
 abbrev pub ReadsBack : Plain → Type 0

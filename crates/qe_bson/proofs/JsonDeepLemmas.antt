@@ -8,10 +8,11 @@ use Rattle.std.specs.Prelude.{ℤ}
 use Rattle.qe_value.specs.declared.value.Plain.{Plain}
 use Rattle.qe_bson.specs.declared.extended_json.fault.JsonFault.{JsonFault}
 use Rattle.qe_bson.specs.declared.extended_json.fault.JsonFault.TheVariants.{TooDeep}
-use Rattle.qe_bson.specs.declared.extended_json.forms.Form.{Form}
-use Rattle.qe_bson.specs.JsonForms.{◌>>=◌, form_named, form_of, form_judged, value_in, number_of_int}
+use Rattle.qe_json_forms.specs.declared.forms.Form.{Form}
+use Rattle.qe_json_forms.specs.Forms.{◌>>=◌, form_named, form_of, value_in}
+use Rattle.qe_bson.specs.JsonForms.{form_judged, number_of_int}
 use Rattle.qe_bson.specs.JsonReading.{then, in_document, form_or, value_at, items_at, fields_at}
-use Rattle.qe_bson.proofs.JsonFormLemmas.{both}
+use Rattle.qe_json_forms.proofs.FormLemmas.{both}
 
 -- a fault behind a step is the step's, or the next one's
 from_step : {A B : Type 0} (next : A → Result B JsonFault) (r : Result A JsonFault) → then next r ≡ Err TooDeep → (r ≡ Err TooDeep) ⊎ ((x : A) × (next x ≡ Err TooDeep))

@@ -9,9 +9,10 @@ use Rattle.qe_value.specs.declared.value.Plain.{Plain, the_lemmas}
 use Rattle.qe_value.specs.declared.value.Plain.TheVariants as p
 use Rattle.qe_value.specs.Measures.{any_true}
 use Rattle.qe_bson.specs.declared.extended_json.fault.JsonFault.TheVariants.{TooDeep}
-use Rattle.qe_bson.specs.declared.extended_json.forms.Form.{Form}
-use Rattle.qe_bson.specs.declared.extended_json.forms.Form.TheVariants as form
-use Rattle.qe_bson.specs.JsonForms.{◌>>=◌, binary_at, bytes_at, date_at, fits, form_judged, form_of, number_of_int, value_in, whole_at}
+use Rattle.qe_json_forms.specs.declared.forms.Form.{Form}
+use Rattle.qe_json_forms.specs.declared.forms.Form.TheVariants as form
+use Rattle.qe_json_forms.specs.Forms.{◌>>=◌, binary_at, bytes_at, date_at, fits, form_of, value_in, whole_at}
+use Rattle.qe_bson.specs.JsonForms.{form_judged, number_of_int}
 use Rattle.qe_bson.specs.JsonReading.{then, in_document, form_or, value_at, items_at, fields_at}
 use Rattle.qe_bson.specs.JsonWriting.{formless}
 use Rattle.qe_bson.proofs.JsonReadLemmas.{gave}

@@ -15,9 +15,10 @@ use Rattle.hex.specs.Hex.{decode_sized}
 use Rattle.std.specs.Result.{result_ok}
 use Rattle.qe_value.specs.declared.value.Plain.{Plain}
 use Rattle.qe_bson.specs.declared.extended_json.fault.JsonFault.TheVariants.{TooDeep}
-use Rattle.qe_bson.specs.declared.extended_json.forms.Form.{Form}
-use Rattle.qe_bson.specs.declared.extended_json.forms.Form.TheVariants as form
-use Rattle.qe_bson.specs.JsonForms.{◌>>=◌, form_of, form_judged, long_form, whole_at, whole_in, has_members, binary_at, subtype_at, member_text, bytes_at, first_byte, date_at, value_in}
+use Rattle.qe_json_forms.specs.declared.forms.Form.{Form}
+use Rattle.qe_json_forms.specs.declared.forms.Form.TheVariants as form
+use Rattle.qe_json_forms.specs.Forms.{◌>>=◌, form_of, long_form, whole_at, whole_in, has_members, binary_at, subtype_at, member_text, bytes_at, first_byte, date_at, value_in}
+use Rattle.qe_bson.specs.JsonForms.{form_judged}
 use Rattle.qe_bson.specs.JsonReading.{then, in_document, form_or, value_at, items_at, fields_at}
 use Rattle.qe_bson.proofs.JsonDeepLemmas.{form_member}
 use Rattle.qe_bson.proofs.JsonReadLemmas.{gave}

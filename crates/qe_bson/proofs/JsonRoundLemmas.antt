@@ -9,13 +9,13 @@ use Rattle.serde_json.specs.View.{items_of}
 use Rattle.qe_value.specs.declared.value.Plain.{Plain}
 use Rattle.qe_value.specs.declared.value.Plain.TheOpen.{Plain-F}
 use Rattle.qe_value.specs.declared.value.Plain.TheVariants as p
-use Rattle.qe_bson.specs.JsonForms.{form_named, form_of}
+use Rattle.qe_json_forms.specs.Forms.{form_named, form_of}
 use Rattle.qe_bson.specs.JsonReading.{then, in_array, in_document, form_or, value_at, fields_at}
 use Rattle.qe_bson.specs.JsonRound.{typed, rising, like_a_form, ordered, ordered_step, levels}
 use Rattle.qe_value.specs.Measures.{all_true, greatest}
 use Rattle.qe_bson.specs.JsonWriting.{all_of, array_data, object_data, members_from, json_of, json_field}
 use Rattle.qe_bson.proofs.JsonAgainLemmas.{Known, bare, items_again, AllBelow, none_below, AllBelow-put, fields_at-put}
-use Rattle.qe_bson.proofs.JsonFormLemmas.{both}
+use Rattle.qe_json_forms.proofs.FormLemmas.{both}
 use Rattle.qe_bson.proofs.JsonReadLemmas.{gave}
 
 abbrev named : List (List ℕ × Known) → List (List ℕ)

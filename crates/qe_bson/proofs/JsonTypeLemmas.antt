@@ -17,19 +17,10 @@ use Rattle.qe_bson.specs.JsonReading.{value_at}
 use Rattle.qe_base.specs.Bytes.{are_bytes}
 use Rattle.qe_bson.specs.JsonRound.{typed, typed_step, parts_typed, fields_typed, items_typed, ordered, levels}
 use Rattle.qe_bson.specs.JsonWriting.{json_of, json_step}
-use Rattle.qe_bson.proofs.JsonFormLemmas.{both}
+use Rattle.qe_json_forms.proofs.FormLemmas.{both}
+use Rattle.qe_json_forms.proofs.RangeLemmas.{and_true}
 use Rattle.qe_bson.proofs.JsonPrintLemmas.{json_of-plain}
 use Rattle.qe_bson.proofs.JsonValueLemmas.{reads_back}
-
-and_true : (a b : Bool) → a ≡ true → b ≡ true → (a && b) ≡ true
-and_true a b first second = rw (first, second) refl
-
--- numbers below 256 at each place are bytes
-pub are_bytes-below : (bytes : List ℕ) → ((i : ℕ) → get_or bytes i 0 < 256) → are_bytes bytes ≡ true
-are_bytes-below [] below = refl
-are_bytes-below (b ∷ bytes) below =
-    let here : b < 256 = below 0 in
-    let first : nat_lt b 256 ≡ true = grind (arith, nat_tests) in and_true (nat_lt b 256) (are_bytes bytes) first (are_bytes-below bytes (λ i. below (suc i)))
 
 typed-Doc : (fs : List (List ℕ × Plain)) → typed (p.Doc fs) ≡ fields_typed fs
 unfolding typed

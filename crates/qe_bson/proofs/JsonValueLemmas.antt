@@ -14,7 +14,7 @@ use Rattle.qe_base.specs.Bytes.{are_bytes}
 use Rattle.qe_bson.specs.JsonRound.{typed, typed_step, ordered, ordered_step, levels, levels_step}
 use Rattle.qe_bson.specs.JsonWriting.{long, date, object_id, binary, json_of, json_step}
 use Rattle.qe_bson.proofs.JsonAgainLemmas.{ReadsBack, Known, bare}
-use Rattle.qe_bson.proofs.JsonFormLemmas.{both}
+use Rattle.qe_json_forms.proofs.FormLemmas.{both}
 use Rattle.qe_bson.proofs.JsonLeafLemmas.{int32-again, long-again, date-again, object_id-again, binary-again}
 use Rattle.qe_bson.proofs.JsonRoundLemmas.{doc_again, array_again}
 

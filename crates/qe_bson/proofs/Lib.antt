@@ -1,7 +1,6 @@
 pub mod JsonAgainLemmas
 pub mod JsonDeepLemmas
 pub mod JsonFloatLemmas
-pub mod JsonFormLemmas
 pub mod JsonFormedLemmas
 pub mod JsonFormlessLemmas
 pub mod JsonLeafLemmas
@@ -11,5 +10,5 @@ pub mod JsonReadLemmas
 pub mod JsonRoundLemmas
 pub mod JsonTypeLemmas
 pub mod JsonValueLemmas
-pub mod RunLemmas
-pub mod StreamLemmas
+pub use Rattle.qe_bson_stream.proofs.RunLemmas
+pub use Rattle.qe_bson_stream.proofs.StreamLemmas

@@ -6,9 +6,10 @@ use Rattle.qe_value.specs.declared.value.Plain.{Plain}
 use Rattle.qe_value.specs.declared.value.Plain.TheVariants as p
 use Rattle.qe_bson.specs.declared.extended_json.fault.JsonFault.{JsonFault}
 use Rattle.qe_bson.specs.declared.extended_json.fault.JsonFault.TheVariants.{TooDeep}
-use Rattle.qe_bson.specs.declared.extended_json.forms.Form.{Form}
+use Rattle.qe_json_forms.specs.declared.forms.Form.{Form}
 use Rattle.qe_document.specs.Limits.{most_levels}
-use Rattle.qe_bson.specs.JsonForms.{form_of, form_value, number_value}
+use Rattle.qe_json_forms.specs.Forms.{form_of}
+use Rattle.qe_bson.specs.JsonForms.{form_value, number_value}
 
 -- the second step, where the first gave a value
 abbrev pub then : {A B : Type 0} → (A → Result B JsonFault) → Result A JsonFault → Result B JsonFault

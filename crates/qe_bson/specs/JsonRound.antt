@@ -1,27 +1,17 @@
 -- Which values are read again from what is printed of them.
-use Rattle.std.specs.Prelude.{ℕ, suc, ◌==◌, ◌&&◌, nat_lt, Bool, true, false, not, List, [], ◌∷◌, map, length, is_some}
+use Rattle.std.specs.Prelude.{ℕ, suc, ◌&&◌, Bool, true, false, not, List, [], ◌∷◌, map, is_some}
 use Rattle.std.specs.Cmp.Lexicographic.{slice_cmp}
 use Rattle.std.specs.List.{list_all}
 use Rattle.std.specs.Ordering.{nat_cmp, is_lt}
-use Rattle.qe_base.specs.Bytes.{are_bytes}
 use Rattle.qe_value.specs.declared.value.Plain.{Plain, fold-Plain}
 use Rattle.qe_value.specs.declared.value.Plain.TheOpen.{Plain-F}
 use Rattle.qe_value.specs.declared.value.Value.{Value}
 use Rattle.qe_value.specs.declared.value.Value.TheVariants as v
 use Rattle.qe_value.specs.Measures.{all_true, greatest}
-use Rattle.qe_bson.specs.JsonForms.{fits, form_named}
+use Rattle.qe_json_forms.specs.Forms.{form_named}
+pub use Rattle.qe_json_forms.specs.Ranges.{typed_step}
 
--- numbers and bytes are in the ranges of their types, as they are in every value of the code
-abbrev pub typed_step : Plain-F Bool → Bool
-typed_step (Plain-F.Doc fs) = all_true (map (λ f. f.1) fs)
-typed_step (Plain-F.Array bs) = all_true bs
-typed_step (Plain-F.Binary subtype bytes) = nat_lt subtype 256 && are_bytes bytes
-typed_step (Plain-F.ObjectId id) = length id == 12 && are_bytes id
-typed_step (Plain-F.Date z) = fits 63 z
-typed_step (Plain-F.Int32 z) = fits 31 z
-typed_step (Plain-F.Int64 z) = fits 63 z
-typed_step _ = true
-
+-- numbers and bytes are in the ranges of their types
 unfoldable pub typed : Plain → Bool
 typed = fold-Plain Bool typed_step
 

@@ -1,10 +1,6 @@
 -- The JSON data of a value. Doubles, decimals and timestamps have none.
-use Rattle.std.specs.Prelude.{ℕ, ℤ, Bool, true, false, List, [], ◌∷◌, map, codes, Result, Ok, Err}
-use Rattle.std.specs.Fmt.{signed_decimal}
-use Rattle.base64.specs.Engines.{standard}
-use Rattle.base64.specs.GeneralPurpose.{encode_of}
-use Rattle.hex.specs.Hex.{encode_lower}
-use Rattle.serde_json.specs.Data.{Data, null, boolean, number, string, array, object, Members, no_members, member, put}
+use Rattle.std.specs.Prelude.{ℕ, Bool, true, false, List, [], ◌∷◌, map, Result, Ok, Err}
+use Rattle.serde_json.specs.Data.{Data, null, boolean, number, string, array, object, Members, no_members, put}
 use Rattle.serde_json.specs.Find.{of_integer}
 use Rattle.serde_json.specs.View.{items_of}
 use Rattle.qe_value.specs.declared.value.Plain.{Plain, fold-Plain}
@@ -12,28 +8,8 @@ use Rattle.qe_value.specs.declared.value.Plain.TheOpen.{Plain-F}
 use Rattle.qe_value.specs.Measures.{any_true}
 use Rattle.qe_bson.specs.declared.extended_json.fault.JsonFault.{JsonFault}
 use Rattle.qe_bson.specs.declared.extended_json.fault.JsonFault.TheVariants.{Unprintable}
+pub use Rattle.qe_json_forms.specs.Writing.{only, long, date, object_id, binary_content, binary}
 use Rattle.qe_bson.specs.JsonReading.{then}
-
--- `{"NAME":DATA}`
-abbrev pub only : List ℕ → Data → Data
-only name d = object (member name d no_members)
-
-abbrev pub long : ℤ → Data
-long z = only (codes "$numberLong") (string (signed_decimal z))
-
-abbrev pub date : ℤ → Data
-date millis = only (codes "$date") (long millis)
-
-abbrev pub object_id : List ℕ → Data
-object_id id = only (codes "$oid") (string (encode_lower id))
-
-abbrev pub binary_content : ℕ → List ℕ → Data
-binary_content subtype bytes =
-    object (member (codes "base64") (string (encode_of standard bytes))
-    (member (codes "subType") (string (encode_lower (subtype ∷ []))) no_members))
-
-abbrev pub binary : ℕ → List ℕ → Data
-binary subtype bytes = only (codes "$binary") (binary_content subtype bytes)
 
 -- all items, where each has one
 abbrev pub all_of : List (Result Data JsonFault) → Result (List Data) JsonFault

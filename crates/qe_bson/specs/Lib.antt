@@ -3,8 +3,10 @@ pub mod JsonForms
 pub mod JsonReading
 pub mod JsonRound
 pub mod JsonWriting
-pub mod Runs
-pub mod Stream
+pub use Rattle.qe_bson_stream.specs.Runs
+pub use Rattle.qe_bson_stream.specs.Stream
+pub use Rattle.qe_json_forms.specs.Forms
+pub use Rattle.qe_json_forms.specs.Ranges
 pub use Rattle.qe_document.specs.Faults
 pub use Rattle.qe_document.specs.Limits
 pub use Rattle.qe_document.specs.Measures

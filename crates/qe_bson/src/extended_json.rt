@@ -8,8 +8,8 @@ mod writing;
 
 pub use fault::JsonFault;
 pub use laws::{
-    a_hundred_levels_are_read, an_integer_has_one_text, bytes_have_one_text,
-    what_is_printed_is_read_again, what_is_read_has_a_form, what_is_unprintable,
+    a_hundred_levels_are_read, what_is_printed_is_read_again, what_is_read_has_a_form,
+    what_is_unprintable,
 };
 pub use reading::from_json;
 pub use writing::to_json;

@@ -1,34 +1,14 @@
-//! Laws about the forms and about both directions.
+//! Laws about both directions.
 
-ghost use Rattle.std.specs.Prelude.{◌≡◌, ◌<◌, ◌≤◌, ◌↔◌, ℕ, ℤ, List, true, false, Ok, Err, Some};
-ghost use Rattle.std.specs.Fmt.{signed_decimal};
-ghost use Rattle.std.specs.Result.{result_ok};
-ghost use Rattle.base64.specs.Engines.{standard};
-ghost use Rattle.base64.specs.GeneralPurpose.{IsBytes, decode_of, encode_of};
+ghost use Rattle.std.specs.Prelude.{◌≡◌, ◌<◌, ◌≤◌, ◌↔◌, true, false, Ok, Err};
 ghost use Rattle.serde_json.specs.Data.{Data, depth};
 ghost use Rattle.qe_value.specs.declared.value.Plain.{Plain};
 ghost use Rattle.qe_bson.specs.declared.extended_json.fault.JsonFault.{JsonFault};
 ghost use Rattle.qe_bson.specs.declared.extended_json.fault.JsonFault.TheVariants.{TooDeep, Unprintable};
 ghost use Rattle.qe_document.specs.Limits.{most_levels};
-ghost use Rattle.qe_bson.specs.JsonForms.{fits, whole_in};
 ghost use Rattle.qe_bson.specs.JsonReading.{value_of_json};
 ghost use Rattle.qe_bson.specs.JsonRound.{typed, ordered, levels};
 ghost use Rattle.qe_bson.specs.JsonWriting.{json_of, formless};
-
-/// The texts of `$numberInt` and `$numberLong` are those in which integers of 32 and 64 bits are written, and each
-/// stands for its integer.
-pub fn an_integer_has_one_text()
-    ensures int { (text : List ℕ) (z : ℤ)
-        → (whole_in 31 text ≡ Some z) ↔ ((fits 31 z ≡ true) × (text ≡ signed_decimal z)) }
-    ensures long { (text : List ℕ) (z : ℤ)
-        → (whole_in 63 text ≡ Some z) ↔ ((fits 63 z ≡ true) × (text ≡ signed_decimal z)) }
-{}
-
-/// A text of base64 is the one that is written for its bytes (RFC 4648, section 4).
-pub fn bytes_have_one_text()
-    ensures { (text bytes : List ℕ) → IsBytes text → IsBytes bytes
-        → (result_ok (decode_of standard text) ≡ Some bytes) ↔ (text ≡ encode_of standard bytes) }
-{}
 
 /// Nothing of more than 100 levels is read, and `TooDeep` comes only where there are more. An object of a form is a
 /// level, and so is one inside it.

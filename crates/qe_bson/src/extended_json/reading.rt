@@ -7,9 +7,10 @@ ghost use Rattle.qe_bson.specs.JsonFaults.{json_refusal};
 ghost use Rattle.qe_bson.specs.JsonReading.{value_at, array_value, object_value, items_at, fields_at, value_of_json};
 
 use crate::extended_json::fault::JsonFault;
-use crate::extended_json::forms::{Form, form_value, number_of};
+use crate::extended_json::forms::{form_value, number_of};
 use crate::{Document, MOST_LEVELS, Value, Values};
 use qe_base::Text;
+use qe_json_forms::Form;
 use serde_json::{Map, Value as Json};
 use std::alloc::Global;
 

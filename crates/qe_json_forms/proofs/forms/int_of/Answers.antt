@@ -1,0 +1,5 @@
+use Rattle.qe_json_forms.proofs.FormLemmas.{fits_32, whole_in-refused}
+use Rattle.qe_json_forms.proofs.forms.int_of.Goals as goal
+
+pub returns-in_err-n : goal.returns-in_err-n
+returns-in_err-n c = rw c.from_residual.ensures (whole_in-refused _ 31 c.args.text.now c.parse.result fits_32 c.in_err-n.ensures.value c.parse.ensures.value.0)
