@@ -1,4 +1,4 @@
-pub mod ValueLemmas
+pub use Rattle.qe_command_parts.proofs.ValueLemmas
 pub mod SlotLemmas
 pub mod DocumentLemmas
 pub mod SchemaLemmas

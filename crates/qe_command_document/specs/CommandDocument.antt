@@ -28,7 +28,7 @@ use Rattle.qe_command_document.specs.declared.part.Op.TheVariants as op
 use Rattle.qe_command_document.specs.declared.part.Part.{Part}
 use Rattle.qe_command_document.specs.declared.part.Part.TheVariants as part
 use Rattle.qe_command_document.specs.CellDocuments.{doc_of, set_of, tokens_of, encrypted_among}
-use Rattle.qe_command_document.specs.FilterArrays.{filter_reads}
+use Rattle.qe_command_parts.specs.FilterArrays.{filter_reads}
 
 -- which command a name is
 unfoldable pub op_named : List ℕ → Option Op

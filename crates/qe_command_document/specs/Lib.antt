@@ -1,7 +1,7 @@
-pub mod Values
-pub mod Payloads
+pub use Rattle.qe_command_parts.specs.Values
+pub use Rattle.qe_command_parts.specs.Payloads
+pub use Rattle.qe_command_parts.specs.FilterArrays
 pub mod Rising
 pub mod CellDocuments
-pub mod FilterArrays
 pub mod CommandDocument
 pub mod CommandLaws

@@ -1,4 +1,4 @@
-//! Documents with an element for each field: of values, and of tokens.
+//! Documents of values, with an element for each field.
 
 ghost use Rattle.std.specs.Prelude.{◌≡◌, ◌+◌, ◌≤◌, ◌++◌, length, drop, IfOk, OnOk};
 ghost use Rattle.qe_document.specs.Names.{Distinct};
@@ -9,66 +9,16 @@ ghost use Rattle.qe_command_document.specs.Rising.{AreBelow};
 ghost use Rattle.qe_command_document.specs.CellDocuments as documents;
 
 use crate::part::{CellPart, Doc};
-use crate::payloads::{Wanted, insert_under};
 use qe_base::NoMemory;
-use qe_command::{SentCell, SentCells};
+use qe_command::SentCells;
+use qe_command_parts::{id, sent};
 use qe_document::{Document, Value};
-use qe_field::{Field, FieldKind, is_encrypted, is_id, is_reserved, known};
-use qe_layout::{Kind, Layout, Malformed, Slots, arrange, fixed, refuse};
-use qe_tokens::{EcocToken, FieldToken, TokenList};
+use qe_field::{Field, is_reserved, known};
+use qe_layout::{Kind, Layout, Malformed, Slots, arrange, refuse};
 use std::alloc::Global;
 
 /// The name of a document's id.
 const ID: &str = "_id";
-
-/// An id.
-#[tactic(auto, using(crate::proofs::ValueLemmas::value_again))]
-pub(crate) fn id(alloc: Global, name: &str, value: Value) -> Result<Value, Malformed>
-    ensures { Reads result (documents.id_reads name.now (plain value)) }
-{
-    if !is_id(&value) {
-        return refuse(alloc, name, Kind::WrongType);
-    }
-    Ok(value)
-}
-
-// A plain value as it is, or a payload.
-#[tactic(auto, using(crate::proofs::ValueLemmas::value_again))]
-fn sent(alloc: Global, name: &str, value: Value, kind: &FieldKind) -> Result<SentCell, Malformed>
-    ensures { Reads result (documents.sent_reads kind.now name.now (plain value)) }
-{
-    match kind {
-        FieldKind::Plain => Ok(SentCell::Plain(value)),
-        FieldKind::Equality {
-            key_id,
-            value_kind,
-            greatest,
-            ..
-        } => {
-            let wanted = Wanted {
-                range: false,
-                key_id: *key_id,
-                kind: *value_kind,
-                greatest: *greatest,
-            };
-            Ok(SentCell::Payload(insert_under(alloc, name, value, &wanted)?))
-        }
-        FieldKind::Range {
-            key_id,
-            value_kind,
-            greatest,
-            ..
-        } => {
-            let wanted = Wanted {
-                range: true,
-                key_id: *key_id,
-                kind: *value_kind,
-                greatest: *greatest,
-            };
-            Ok(SentCell::Payload(insert_under(alloc, name, value, &wanted)?))
-        }
-    }
-}
 
 // What stands in a field of the schema.
 fn field(alloc: Global, fields: &[Field], name: &str, value: Value) -> Result<CellPart, Malformed>
@@ -227,99 +177,4 @@ pub(crate) fn set(
     let slots = arrange(alloc, &SetLayout { fields }, document)?;
     let cells = cells_in(alloc, fields.len(), 0, slots)?;
     Ok(cells)
-}
-
-/// The encrypted field of a path, with its number; a refusal comes at a name.
-pub(crate) fn encrypted(
-    alloc: Global,
-    fields: &[Field],
-    name: &str,
-    path: &str,
-) -> Result<(u32, FieldKind), Malformed>
-    requires { length fields.now ≤ 64 }
-    ensures { Reads result (documents.encrypted_among name.now (known fields.now path.now)) }
-{
-    match known(fields, path) {
-        Some((number, kind)) if is_encrypted(&kind) => Ok((number, kind)),
-        _ => refuse(alloc, name, Kind::NotInSchema),
-    }
-}
-
-// The layout of a begin's tokens.
-#[derive(Clone, Copy)]
-struct TokenLayout<'a> {
-    fields: &'a [Field],
-}
-
-impl<'a> Layout for TokenLayout<'a> {
-    ghost use Rattle.std.specs.Prelude.{◌≤◌, length};
-    ghost use Rattle.qe_command_document.specs.CellDocuments.{token_reads, field_rows};
-
-    type Part = [u8; 32];
-
-    ghost reads = { λ it. token_reads it.fields.now };
-
-    ghost rows = { λ it. field_rows it.fields.now };
-
-    ghost fits = { λ it. length it.fields.now ≤ 64 };
-
-    #[tactic(auto, unfolding(crate::specs::CellDocuments::token_reads))]
-    fn read(&self, alloc: Global, name: &str, value: Value) -> Result<[u8; 32], Malformed> {
-        if is_reserved(name) {
-            return refuse(alloc, name, Kind::ReservedName);
-        }
-        encrypted(alloc, self.fields, name, name)?;
-        fixed(alloc, name, value, 0)
-    }
-
-    fn count(&self) -> usize {
-        self.fields.len()
-    }
-
-    fn row(&self, place: usize) -> (&str, Option<Kind>) {
-        (self.fields[place].path.as_str(), None)
-    }
-}
-
-// The tokens in the slots of so many fields.
-fn tokens_in(alloc: Global, count: usize, mut slots: Slots<[u8; 32]>) -> Result<TokenList, NoMemory>
-    requires few { count ≤ 64 }
-    requires slots { length slots ≡ count }
-    ensures { IfOk result (λ tokens. tokens ≡ documents.tokens_from 0 slots) }
-{
-    let mut tokens = TokenList::new(alloc);
-    for i in 0..count {
-        let slot = slots.take(i);
-        put_token(&mut tokens, i as u32, slot)?;
-    }
-    Ok(tokens)
-}
-
-// Adds the token in a field's slot, if there is one.
-fn put_token(tokens: &mut TokenList, field: u32, slot: Option<[u8; 32]>) -> Result<(), NoMemory>
-    ensures { OnOk result (tokens.new ≡ tokens.old ++ documents.token_at field slot) }
-{
-    match slot {
-        Some(token) => tokens.push(FieldToken {
-            field,
-            token: EcocToken(token),
-        }),
-        None => Ok(()),
-    }
-}
-
-/// The tokens that a begin sends.
-#[tactic(auto, unfolding(crate::specs::CellDocuments::tokens_of))]
-pub(crate) fn tokens(
-    alloc: Global,
-    fields: &[Field],
-    document: Document,
-) -> Result<TokenList, Malformed>
-    requires few { length fields.now ≤ 64 }
-    requires apart { Distinct (documents.field_rows fields.now) }
-    ensures { Reads result (documents.tokens_of fields.now document) }
-{
-    let slots = arrange(alloc, &TokenLayout { fields }, document)?;
-    let tokens = tokens_in(alloc, fields.len(), slots)?;
-    Ok(tokens)
 }

@@ -10,11 +10,11 @@ ghost use Rattle.qe_command_document.specs.CellDocuments.{doc_rows, field_rows, 
 ghost use Rattle.qe_command_document.specs.CommandDocument as command;
 ghost use Rattle.qe_command_document.specs.declared.part.Part.TheVariants.{Number};
 
-use crate::documents::{doc, encrypted, set, tokens};
-use crate::filters::filter;
+use crate::documents::{doc, set};
 use crate::part::{Doc, Part};
 use qe_base::JobKind;
 use qe_command::SentCells;
+use qe_command_parts::{encrypted, filter, tokens};
 use qe_document::Value;
 use qe_field::{Field, text_in};
 use qe_layout::{Kind, Malformed, document, inside, int32, natural, refuse};

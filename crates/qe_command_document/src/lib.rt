@@ -2,17 +2,15 @@
 //!
 //!     let command = read_command(alloc, &schema, &bytes)?; // or the first refusal and its path
 //!
-//! `op` says which command a document is of, and the other elements are read by tables of qe_layout, under a schema. Read:
-//! part, payloads, documents, filters, elements, reading, laws; of `specs/`: Values, Payloads, CellDocuments,
-//! FilterArrays, CommandDocument.
+//! `op` says which command a document is of, and the other elements are read by tables of qe_layout, under a schema; what
+//! stands in a field, filters and tokens by qe_command_parts, whose definitions are passed on. Read: part, documents,
+//! elements, reading, laws; of `specs/`: CellDocuments, CommandDocument.
 #![tactic(auto)]
 
 mod documents;
 mod elements;
-mod filters;
 mod laws;
 mod part;
-mod payloads;
 mod reading;
 
 pub use laws::command_documents_are_read;

@@ -212,7 +212,7 @@ fn cells_made(
 }
 
 // What is sent to insert a document.
-#[tactic(auto, using(qe_command_document::proofs::ValueLemmas::value_again), unfolding(qe_encodes::specs::Sending::command_of))]
+#[tactic(auto, using(qe_command_parts::proofs::ValueLemmas::value_again), unfolding(qe_encodes::specs::Sending::command_of))]
 fn insert_made(
     alloc: Global,
     sender: &Sender,

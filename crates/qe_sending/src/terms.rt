@@ -118,7 +118,7 @@ fn between(
 }
 
 // What is sent of the term at a place.
-#[tactic(auto, using(qe_command_document::proofs::ValueLemmas::value_again))]
+#[tactic(auto, using(qe_command_parts::proofs::ValueLemmas::value_again))]
 fn sent_term(
     alloc: Global,
     keyring: &Keyring,

@@ -222,7 +222,7 @@ fn range(
 }
 
 /// What is sent of a value of a field, by how the field is kept.
-#[tactic(auto, using(qe_command_document::proofs::ValueLemmas::value_again))]
+#[tactic(auto, using(qe_command_parts::proofs::ValueLemmas::value_again))]
 pub(crate) fn sent_value(
     alloc: Global,
     keyring: &Keyring,

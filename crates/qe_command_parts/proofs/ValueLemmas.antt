@@ -4,7 +4,7 @@ use Rattle.qe_value.specs.declared.value.Value.{Value}
 use Rattle.qe_value.specs.declared.value.Value.TheVariants as v
 use Rattle.qe_value.specs.Views.{plain}
 use Rattle.qe_value.proofs.PlainLemmas as o
-use Rattle.qe_command_document.specs.Values.{open_value, value_of}
+use Rattle.qe_command_parts.specs.Values.{open_value, value_of}
 
 pub value_again : (value : Value) → value_of (plain value) ≡ value
 unfolding value_of

@@ -3,7 +3,7 @@
 ghost use Rattle.std.specs.Prelude.{◌≡◌, nat_abs};
 ghost use Rattle.qe_document.specs.Views.{plain};
 ghost use Rattle.qe_layout.specs.Refusal.{Reads};
-ghost use Rattle.qe_command_document.specs.Payloads as payloads;
+ghost use Rattle.qe_command_parts.specs.Payloads as payloads;
 
 use qe_base::{Bytes, bytes_of};
 use qe_document::Value;
@@ -138,7 +138,8 @@ pub(crate) fn equal_under(
 {
     let bytes = blob(alloc, name, value, 12)?;
     let payload = under(alloc, name, read_equal(alloc, bytes.slice()))?;
-    factor_within(alloc, name, greatest, payload.cm.unsigned_abs(), payload)
+    let factor = payload.cm.unsigned_abs();
+    factor_within(alloc, name, greatest, factor, payload)
 }
 
 /// A payload that finds the values of an interval in a range field.

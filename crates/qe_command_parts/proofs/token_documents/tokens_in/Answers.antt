@@ -1,6 +1,6 @@
 use Rattle.std.proofs.Common.{arith}
-use Rattle.qe_command_document.proofs.SlotLemmas.{gathering_goes_on}
-use Rattle.qe_command_document.proofs.documents.tokens_in.Goals as goal
+use Rattle.qe_command_parts.proofs.SlotLemmas.{gathering_goes_on}
+use Rattle.qe_command_parts.proofs.token_documents.tokens_in.Goals as goal
 
 pub loop-i-preserved : goal.loop-i-preserved
 loop-i-preserved c =

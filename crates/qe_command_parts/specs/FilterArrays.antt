@@ -12,8 +12,8 @@ use Rattle.qe_layout.specs.Layouts.{Element, Reader}
 use Rattle.qe_layout.specs.Refusal.{Refusal, wrong, bind, map_read, read_inside}
 use Rattle.qe_command.specs.declared.filter.SentTerm.{SentTerm}
 use Rattle.qe_command.specs.declared.filter.SentTerm.TheVariants as t
-use Rattle.qe_command_document.specs.CellDocuments.{id_name, id_reads}
-use Rattle.qe_command_document.specs.Payloads.{equal_reads_of, range_reads_of}
+use Rattle.qe_command_parts.specs.Fields.{id_name, id_reads}
+use Rattle.qe_command_parts.specs.Payloads.{equal_reads_of, range_reads_of}
 
 -- a term of a field: an equality field's, or a range field's
 abbrev pub found_reads : Option (ℕ × FieldKind) → Reader SentTerm

@@ -4,9 +4,9 @@ ghost use Rattle.std.specs.Prelude.{◌≡◌, ◌≤◌, length};
 ghost use Rattle.qe_document.specs.Views.{plain};
 ghost use Rattle.qe_field.specs.Lookup.{known};
 ghost use Rattle.qe_layout.specs.Refusal.{Reads};
-ghost use Rattle.qe_command_document.specs.FilterArrays as filters;
+ghost use Rattle.qe_command_parts.specs.FilterArrays as filters;
 
-use crate::documents::id;
+use crate::fields::id;
 use crate::payloads::{equal_under, range_under};
 use qe_command::{SentFilter, SentTerm};
 use qe_document::{Document, Value};
@@ -73,7 +73,7 @@ struct TermItem<'a> {
 
 impl<'a> Item for TermItem<'a> {
     ghost use Rattle.std.specs.Prelude.{◌≤◌, length};
-    ghost use Rattle.qe_command_document.specs.FilterArrays.{term_item};
+    ghost use Rattle.qe_command_parts.specs.FilterArrays.{term_item};
 
     type Out = SentTerm;
 
@@ -88,8 +88,8 @@ impl<'a> Item for TermItem<'a> {
     }
 }
 
-/// The terms of a filter.
-pub(crate) fn filter(
+/// The terms of a filter: an array of documents of one element each, or the first refusal and its path.
+pub fn filter(
     alloc: Global,
     fields: &[Field],
     name: &str,
