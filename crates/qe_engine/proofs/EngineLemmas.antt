@@ -1,5 +1,5 @@
 -- An entry added to a journal.
-use Rattle.std.proofs.Common.{◌≡◌, ◌≤◌, ◌-◌, ℕ, ◌+◌, List, [], ◌∷◌, ◌++◌, length, None, Some, refl, sym, ◌∙◌, ap, subst, arith, length-append}
+use Rattle.std.proofs.Common.{◌≡◌, ◌≤◌, ◌-◌, ℕ, ◌+◌, List, [], ◌∷◌, ◌++◌, length, refl, sym, ◌∙◌, ap, subst, arith, length-append}
 use Rattle.qe_base.specs.declared.maintenance.Count.{Count}
 use Rattle.qe_field.specs.declared.field.Field.{Field}
 use Rattle.qe_command.specs.declared.command.Command.{Command}
@@ -8,32 +8,15 @@ use Rattle.qe_command_document.specs.CommandDocument.{Fits}
 use Rattle.qe_protocol.specs.declared.journal.JournalEntry.{JournalEntry}
 use Rattle.qe_protocol.specs.declared.reply.Outcome.{Outcome}
 use Rattle.qe_protocol.specs.declared.reply.Reply.{Reply}
-use Rattle.qe_protocol.specs.State.{State}
-use Rattle.qe_protocol.specs.Contention.{refusal}
-use Rattle.qe_protocol.specs.Next.{served, next, unless_refused, outcome_of, AllowedServed, AllowedUnless, AllowedCounts}
+use Rattle.qe_protocol.specs.Next.{next, outcome_of, AllowedCounts}
 use Rattle.qe_protocol.specs.Journal.{opening, done, IsAllowed, IsLegal, state_of}
 use Rattle.qe_protocol.specs.Laws.{AreTagged}
 use Rattle.qe_protocol.proofs.DocumentLemmas.{next-tagged}
 use Rattle.qe_protocol.proofs.JournalLemmas.{grows_by_entries}
-use Rattle.qe_engine.specs.declared.collections.Collections.{Collections}
-use Rattle.qe_engine.specs.declared.made.Made.{Made}
-use Rattle.qe_engine.specs.Serving.{state_in, done_by, IsServed, IsNext}
+use Rattle.qe_serving.specs.declared.collections.Collections.{Collections}
+use Rattle.qe_serving.specs.declared.made.Made.{Made}
+use Rattle.qe_serving.specs.Serving.{state_in, done_by, IsNext}
 use Rattle.qe_engine.specs.Engines.{Engined, StandsByJournal, EntryAdded}
-
--- a command that is refused before all else, and one that isn't
-pub next_refused : (state : State) (command : Command) (nonces : List (List ℕ)) (reply : Reply) → refusal state.current command ≡ Some reply
-    → IsNext state state command nonces (record { reply = reply; counts = []; opened = [] })
-next_refused state command nonces reply refused = record {
-  allowed = subst (λ reason. AllowedUnless reason [] (AllowedServed state command nonces [])) (sym refused) refl;
-  does = ap (λ reason. unless_refused state reason (served state command nonces [])) refused;
-}
-
-pub next_served : (old new : State) (command : Command) (nonces : List (List ℕ)) (made : Made) → refusal old.current command ≡ None
-    → IsServed old new command nonces made → IsNext old new command nonces made
-next_served old new command nonces made not_refused serves = record {
-  allowed = subst (λ reason. AllowedUnless reason made.counts (AllowedServed old command nonces made.counts)) (sym not_refused) serves.allowed;
-  does = ap (λ reason. unless_refused old reason (served old command nonces made.counts)) not_refused ∙ serves.does;
-}
 
 module _ (schema : List Field) (kept after : Collections) (journal : List JournalEntry) (stands : StandsByJournal schema kept journal)
     (entry : JournalEntry) (made : Made) (fits : Fits schema entry.command) (enough : length entry.nonces ≡ nonces_of entry.command)

@@ -1,9 +1,3 @@
-pub mod IdLemmas
-pub mod FirstLemmas
-pub mod MatchLemmas
-pub mod PickLemmas
-pub mod SizeLemmas
-pub mod ServedLemmas
-pub mod ChangeLemmas
-pub mod JobLemmas
+pub mod ContentionLemmas
 pub mod EngineLemmas
+pub mod DumpLemmas

@@ -1,14 +1,15 @@
 -- What contracts see of an engine, and what a call adds to it.
-use Rattle.std.specs.Prelude.{◌≡◌, ◌≤◌, ℕ, List, [], ◌∷◌, ◌++◌, length}
+use Rattle.std.specs.Prelude.{◌≡◌, ◌≤◌, ℕ, List, [], ◌∷◌, ◌++◌, length, Bool, false, Option, None, Some}
 use Rattle.qe_field.specs.declared.field.Field.{Field}
+use Rattle.qe_field.specs.Lookup.{is_encrypted}
 use Rattle.qe_command.specs.declared.command.Command.{Command}
 use Rattle.qe_protocol.specs.declared.journal.JournalEntry.{JournalEntry}
 use Rattle.qe_protocol.specs.declared.reply.Reply.{Reply}
 use Rattle.qe_protocol.specs.State.{State}
 use Rattle.qe_protocol.specs.Journal.{done, IsAllowed, IsLegal, state_of}
 use Rattle.qe_protocol.specs.Laws.{AreTagged}
-use Rattle.qe_engine.specs.declared.collections.Collections.{Collections}
-use Rattle.qe_engine.specs.Serving.{state_in}
+use Rattle.qe_serving.specs.declared.collections.Collections.{Collections}
+use Rattle.qe_serving.specs.Serving.{state_in}
 
 -- the fields that documents may have, and all that took effect, in order
 pub record Engined : Type 0 where
@@ -18,6 +19,11 @@ pub record Engined : Type 0 where
 -- the state that the journal gives
 abbrev pub state_now : Engined → State
 state_now engine = state_of engine.schema engine.journal
+
+-- an encrypted field has a contention; a plain one has none, and neither has a field that isn't there
+abbrev pub has_contention : Option Field → Bool
+has_contention None = false
+has_contention (Some field) = is_encrypted field.kind
 
 -- what is kept is that state; each entry was allowed, each document's tags are those of its blocks, and no more documents
 -- were inserted than there are entries

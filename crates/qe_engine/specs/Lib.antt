@@ -1,3 +1,1 @@
-pub mod Serving
-pub mod Documents
 pub mod Engines

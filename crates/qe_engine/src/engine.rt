@@ -1,21 +1,21 @@
 //! The engine itself: a schema, a journal, and what the journal says that is kept.
 
-ghost use Rattle.std.specs.Prelude.{◌≡◌, ◌<◌, [], ◌∷◌, ◌++◌, length, IfOk, OnErr, map, vec_len, vec_capacity};
+ghost use Rattle.std.specs.Prelude.{◌≡◌, ◌<◌, [], ◌∷◌, ◌++◌, length, IfOk, OnErr, map, vec_len, vec_capacity, slice_get, false};
 ghost use Rattle.std.specs.FinMap.{len};
 ghost use Rattle.qe_command.specs.Nonces.{nonces_of};
 ghost use Rattle.qe_command_document.specs.CommandDocument.{Fits};
 ghost use Rattle.qe_protocol.specs.Contention.{current_of};
 ghost use Rattle.qe_protocol.specs.Journal.{first_contention, IsLegal};
 ghost use Rattle.qe_dump.specs.Dump.{dump_of};
-ghost use Rattle.qe_engine.specs.Engines.{EntryAdded, state_now};
+ghost use Rattle.qe_engine.specs.Engines.{EntryAdded, has_contention, state_now};
 
-use crate::collections::Collections;
-use crate::made::Made;
+use crate::dump::text_of;
 use qe_base::{Bytes, NoMemory, Nonces};
 use qe_field::{Field, FieldKind};
 use qe_protocol::{Command, JournalEntry, Reply};
 use qe_refusal::{current_of, outcome_of};
 use qe_schema::Schema;
+use qe_serving::{Collections, Made};
 use std::alloc::Global;
 use std::marker::Model;
 
@@ -112,10 +112,13 @@ impl Engine {
         self.journal.as_slice()
     }
 
-    /// A field's current contention, by the field's number; 0 for a plain field. It takes no memory.
+    /// A field's current contention, by the field's number; 0 for a plain field, and where the schema has no such field. It
+    /// takes no memory.
     pub fn current(&self, field: u32) -> u64
-        ensures { result ≡ current_of (state_now self.now).current field }
+        ensures value { result ≡ current_of (state_now self.now).current field }
+        ensures plain { has_contention (slice_get self.now.schema field) ≡ false → result ≡ 0 }
     {
+        let _fields = self.schema.fields();
         current_of(self.collections.current.as_slice(), field)
     }
 
@@ -138,7 +141,7 @@ impl Engine {
     pub fn dump(&self) -> Result<Bytes, NoMemory>
         ensures { IfOk result (λ text. text ≡ dump_of self.now.schema (state_now self.now)) }
     {
-        self.collections.dump(self.schema.fields())
+        text_of(&self.collections, self.schema.fields())
     }
 }
 

@@ -7,18 +7,11 @@
 //! ```
 //!
 //! Contracts see an engine as its schema and its journal; all that it keeps is what qe_protocol defines of these. A call
-//! that wants memory changes nothing. Read: made, collections, documents, jobs, contention, serving, engine; of `specs/`:
-//! Engines, Serving, Documents.
+//! that wants memory changes nothing. Read: dump, engine; of `specs/`: Engines.
 #![tactic(auto)]
 
-mod collections;
-mod contention;
-mod documents;
 mod dump;
 mod engine;
-mod jobs;
-mod made;
-mod serving;
 
 pub use engine::Engine;
 pub use qe_command_document::read_command;

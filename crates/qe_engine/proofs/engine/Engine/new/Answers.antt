@@ -2,7 +2,7 @@ use Rattle.std.proofs.Common.{◌≡◌, map, sym, subst, ap, ◌∙◌}
 use Rattle.qe_protocol.specs.State.{opening_with}
 use Rattle.qe_protocol.specs.Journal.{first_contention, opening}
 use Rattle.qe_field.specs.declared.field.Field.{Field}
-use Rattle.qe_engine.specs.Serving.{state_in}
+use Rattle.qe_serving.specs.Serving.{state_in}
 use Rattle.qe_engine.specs.Engines.{StandsByJournal}
 use Rattle.qe_engine.proofs.EngineLemmas.{opening_stands}
 use Rattle.qe_engine.proofs.engine.Engine.new.Goals as goal

@@ -1,0 +1,9 @@
+pub mod IdLemmas
+pub mod FirstLemmas
+pub mod MatchLemmas
+pub mod PickLemmas
+pub mod SizeLemmas
+pub mod ServedLemmas
+pub mod ChangeLemmas
+pub mod JobLemmas
+pub mod NextLemmas

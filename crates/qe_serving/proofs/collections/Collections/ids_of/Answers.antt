@@ -1,0 +1,22 @@
+use Rattle.std.proofs.Common.{◌+◌, ◌++◌, ◌∷◌, [], map, take, sym, ap, ◌∙◌}
+use Rattle.std.specs.Option.{option_copied}
+use Rattle.qe_value.specs.Views.{plain}
+use Rattle.qe_store.specs.declared.stored.Stored.{Stored}
+use Rattle.qe_serving.specs.Documents.{picked}
+use Rattle.qe_serving.proofs.PickLemmas.{picked_some, picked_none, mapped_some}
+use Rattle.qe_serving.proofs.collections.Collections.ids_of.Goals as goal
+use Rattle.qe_serving.proofs.collections.Collections.ids_of.Goals.{in-Some+in_ok-copy+in_ok-push, in_default}
+
+pub loop-number-preserved : goal.loop-number-preserved
+loop-number-preserved c =
+    let documents = c.args.self.now.store.documents in
+    let numbers = c.args.numbers.now in
+    let place = c.loop-number.number-index in
+    elim c.match-at.branch [
+      | in-Some+in_ok-copy+in_ok-push w ↦ mapped_some (λ (stored : Stored). plain stored.id) (picked documents (take place numbers)) (picked documents (take (place + 1) numbers)) w.in-Some.stored.now
+          c.loop-number.ids c.match-at.ids c.loop-number.invariant
+          (picked_some documents numbers place 0 c.loop-number-test.true w.in-Some.stored.now (sym c.at.ensures.exact ∙ ap option_copied w.in-Some.is))
+          (w.ids-is ∙ w.in_ok-push.ensures.ok ∙ ap (λ id. c.loop-number.ids ++ plain id ∷ []) w.in_ok-copy.ensures)
+      | in_default w ↦ w.ids-is ∙ c.loop-number.invariant
+          ∙ ap (map (λ (stored : Stored). plain stored.id)) (sym (picked_none documents numbers place 0 c.loop-number-test.true (sym c.at.ensures.exact ∙ ap option_copied w.in_default.is)))
+    ]
