@@ -22,7 +22,7 @@ abbrev pub status_of : Verdict → Status
 status_of verdict.Done = Done
 status_of verdict.Clash = Clash
 
--- a script's run has the verdict of this status
+-- a run of the script has the verdict of this status
 pub record IsScriptStatus (script : Script) (status : Status) : Type 0 where
   pub verdict : Verdict
   pub is : IsVerdict script verdict

@@ -76,7 +76,7 @@ fn ending_for(alloc: Global, task: Task, taken: &[u8]) -> Result<Ending, NoMemor
     }
 }
 
-// The text of a script's run, or its first line that isn't read.
+// The text of a run of the script, or its first line that isn't read.
 fn script_ending(alloc: Global, taken: &[u8]) -> Result<Ending, NoMemory>
     ensures { IfOk result (IsEndingFor Task.Replay taken.now) }
 {

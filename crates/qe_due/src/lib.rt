@@ -2,7 +2,7 @@
 //!
 //! ```
 //! let Ending { status, text } = due(alloc, &words, &mut source)?;
-//! // of `replay`: Done and the text of the script's run, Clash and the line of its first clash, or BadScript and the line of
+//! // of `replay`: Done and the text of the run of the script, Clash and the line of its first clash, or BadScript and the line of
 //! // its first fault; of `show`: the lines of blobs; of `make`: a script; of other words: BadWords and the usage line
 //! ```
 //!

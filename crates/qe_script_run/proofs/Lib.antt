@@ -1,5 +1,2 @@
 pub mod FoldLemmas
-pub mod ClientLemmas
-pub mod LineLemmas
-pub mod NextLemmas
 pub mod ReachedLemmas

@@ -23,9 +23,11 @@ use Rattle.qe_census.specs.Noted.{with_words}
 use Rattle.qe_engine.specs.Engines.{Engined}
 use Rattle.qe_line_played.specs.declared.played.Played.{Played}
 use Rattle.qe_script_run.specs.declared.ran.Ran.{Ran}
-use Rattle.qe_script_run.specs.Playing.{HasPlayed}
-use Rattle.qe_script_run.specs.Reached.{AreClients, IsReached}
-use Rattle.qe_script_run.proofs.FoldLemmas.{commands_more, met_more, replies_more}
+use Rattle.qe_line_run.specs.Playing.{HasPlayed}
+use Rattle.qe_line_run.specs.Running.{AreClients}
+use Rattle.qe_line_run.proofs.FoldLemmas.{commands_more}
+use Rattle.qe_script_run.specs.Reached.{IsReached}
+use Rattle.qe_script_run.proofs.FoldLemmas.{met_more, replies_more}
 
 replies_none : (fields : List Field) → replies_of fields [] ≡ []
 unfolding replies_of

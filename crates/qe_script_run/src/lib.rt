@@ -1,4 +1,4 @@
-//! A script run: a client for each caller, one engine, and the lines played in their order.
+//! A script run: a client for each caller, one engine, and the lines played in their order (each as qe_line_run says).
 //!
 //!     let ran = run_script(alloc, &script)?;
 //!     ran.engine.journal(); // a run of the script's lines: an entry for each
@@ -6,7 +6,7 @@
 //!     ran.replies; // what the callers read, a reply for each line
 //!
 //! Whatever the script says, each reply is read: what an engine stores was sent by these clients. `specs/` says how far a run
-//! has come (Reached) and what a line adds to it (Playing). Read: ran, outcomes, starting, running.
+//! has come (Reached). Read: ran, outcomes, starting, running.
 #![tactic(auto)]
 
 mod outcomes;

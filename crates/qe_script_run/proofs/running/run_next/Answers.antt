@@ -4,7 +4,7 @@ use Rattle.std.proofs.lemmas.List.{with_items_is}
 use Rattle.qe_encodes.specs.Counted.{is_accepted}
 use Rattle.qe_client.specs.Clients.{Held}
 use Rattle.qe_script_run.specs.declared.ran.Ran.{Ran}
-use Rattle.qe_script_run.specs.Playing.{HasPlayed}
+use Rattle.qe_line_run.specs.Playing.{HasPlayed}
 use Rattle.qe_script_run.proofs.ReachedLemmas.{reached_more}
 use Rattle.qe_script_run.proofs.running.run_next.Goals as goal
 

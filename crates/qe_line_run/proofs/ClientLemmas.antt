@@ -11,7 +11,7 @@ use Rattle.qe_script.specs.declared.script.Script.{Script}
 use Rattle.qe_encodes.specs.Callers.{Callers, caller_next, callers_next, opening_callers}
 use Rattle.qe_runs.specs.Runs.{Setting, sender_of, setting_of}
 use Rattle.qe_client.specs.Clients.{Held, new_client, with_leaves}
-use Rattle.qe_script_run.specs.Reached.{AreClients, IsClient}
+use Rattle.qe_line_run.specs.Running.{AreClients, IsClient}
 
 module _ (setting : Setting) (callers : Callers) (clients : List Held) where
   -- one client takes the place of another, and stands as its caller does after a command

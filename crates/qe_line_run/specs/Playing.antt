@@ -24,7 +24,7 @@ use Rattle.qe_standing.specs.Laws.{CanLearn}
 use Rattle.qe_engine.specs.Engines.{Engined, state_now}
 use Rattle.qe_client.specs.Clients.{Held}
 use Rattle.qe_line_played.specs.declared.played.Played.{Played}
-use Rattle.qe_script_run.specs.Reached.{HaveRun}
+use Rattle.qe_line_run.specs.Running.{HaveRun}
 
 -- a script that was read, whose commands mean something
 pub record IsMeantScript (script : Script) : Type 0 where

@@ -26,10 +26,10 @@ use Rattle.qe_runs.proofs.RunLemmas.{run_encoded, runs_grow}
 use Rattle.qe_engine.specs.Engines.{Engined, state_now}
 use Rattle.qe_client.specs.Clients.{Held}
 use Rattle.qe_line_played.specs.Played.{IsEntered}
-use Rattle.qe_script_run.specs.Playing.{IsMeantScript, IsReadAlways}
-use Rattle.qe_script_run.specs.Reached.{AreClients, HaveRun, IsClient, callers_now}
-use Rattle.qe_script_run.proofs.ClientLemmas.{clients_next}
-use Rattle.qe_script_run.proofs.FoldLemmas.{callers_more, commands_more}
+use Rattle.qe_line_run.specs.Playing.{IsMeantScript, IsReadAlways}
+use Rattle.qe_line_run.specs.Running.{AreClients, HaveRun, IsClient, callers_now}
+use Rattle.qe_line_run.proofs.ClientLemmas.{clients_next}
+use Rattle.qe_line_run.proofs.FoldLemmas.{callers_more, commands_more}
 
 each_at : {A : Type 0} (P : A → Type 0) (xs : List A) (i : ℕ) (d : A) → AllByRecursion P xs → i < length xs → P (get_or xs i d)
 each_at P [] i d all below = absurd (omega arith)

@@ -1,6 +1,6 @@
 use Rattle.std.proofs.Common.{get_or, ap, ◌∙◌}
-use Rattle.qe_script_run.proofs.NextLemmas.{can_learn_next, has_played, is_next, read_next}
-use Rattle.qe_script_run.proofs.running.play_next.Goals as goal
+use Rattle.qe_line_run.proofs.NextLemmas.{can_learn_next, has_played, is_next, read_next}
+use Rattle.qe_line_run.proofs.playing.play_next.Goals as goal
 
 pub play_read-requires-clause-read : goal.play_read-requires-clause-read
 play_read-requires-clause-read c =

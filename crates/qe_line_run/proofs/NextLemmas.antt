@@ -24,10 +24,10 @@ use Rattle.qe_engine.specs.Engines.{Engined, state_now}
 use Rattle.qe_client.specs.Clients.{Held, with_contentions}
 use Rattle.qe_line_played.specs.Played.{IsAnswered}
 use Rattle.qe_line_played.specs.declared.played.Played.{Played}
-use Rattle.qe_script_run.specs.Playing.{HasPlayed, IsMeantScript, IsReadAlways, TeachesAs}
-use Rattle.qe_script_run.specs.Reached.{HaveRun, IsClient, callers_now}
-use Rattle.qe_script_run.proofs.LineLemmas as line_lemmas
-use Rattle.qe_script_run.proofs.LineLemmas.{LineAt, line_at}
+use Rattle.qe_line_run.specs.Playing.{HasPlayed, IsMeantScript, IsReadAlways, TeachesAs}
+use Rattle.qe_line_run.specs.Running.{HaveRun, IsClient, callers_now}
+use Rattle.qe_line_run.proofs.LineLemmas as line_lemmas
+use Rattle.qe_line_run.proofs.LineLemmas.{LineAt, line_at}
 
 -- a client and a line at a place, where the lines before it were run
 pub record IsNext (script : Script) (place : ℕ) (engine : Engined) (clients : List Held) (line : Line) (client : Held) : Type 0 where

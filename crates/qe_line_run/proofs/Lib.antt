@@ -1,0 +1,4 @@
+pub mod FoldLemmas
+pub mod ClientLemmas
+pub mod LineLemmas
+pub mod NextLemmas
