@@ -5,13 +5,11 @@
 mod ciphers;
 mod hashes;
 mod sealed_values;
-mod streams;
 mod token_tree;
 
 use qe_line::Fault;
 
 fn main(rt: HostRuntime) -> Result<(), Fault> {
-    streams::print(&rt)?;
     ciphers::print(&rt)?;
     hashes::print(&rt)?;
     sealed_values::print(&rt)?;

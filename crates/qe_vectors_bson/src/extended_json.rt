@@ -1,8 +1,8 @@
 //! MongoDB Extended JSON: what is read of a text, and what is printed.
 
 use qe_base::Bytes;
-use qe_bson::{JsonFault, encode, from_json, to_json, value_from};
-use qe_line::{Fault, Hex, accepted};
+use qe_bson::{JsonFault, Value, encode, from_json, to_json, value_from};
+use qe_line::{Fault, Hex, accepted, print_line};
 use serde_json::Value as Json;
 use std::alloc::{AllocError, Global};
 
@@ -106,35 +106,35 @@ const VALUES: [(u8, &[u8]); 13] = [
 ];
 
 /// Prints what is read, refused and printed.
-pub fn print(rt: &(impl Print + AllocGlobal)) -> Result<(), Fault> {
+pub fn print(rt: &HostRuntime) -> Result<(), Fault> {
     print_forms(rt)?;
     print_no_forms(rt)?;
     print_levels(rt)?;
     print_values(rt)
 }
 
-fn print_forms(rt: &(impl Print + AllocGlobal)) -> Result<(), Fault> {
+fn print_forms(rt: &HostRuntime) -> Result<(), Fault> {
     for text in FORMS {
         print_form(rt, text)?;
     }
     Ok(())
 }
 
-fn print_no_forms(rt: &(impl Print + AllocGlobal)) -> Result<(), Fault> {
+fn print_no_forms(rt: &HostRuntime) -> Result<(), Fault> {
     for text in NO_FORMS {
         print_no_form(rt, text)?;
     }
     Ok(())
 }
 
-fn print_levels(rt: &(impl Print + AllocGlobal)) -> Result<(), Fault> {
+fn print_levels(rt: &HostRuntime) -> Result<(), Fault> {
     for (levels, text) in LEVELS {
         print_nested(rt, levels, text)?;
     }
     Ok(())
 }
 
-fn print_values(rt: &(impl Print + AllocGlobal)) -> Result<(), Fault> {
+fn print_values(rt: &HostRuntime) -> Result<(), Fault> {
     for (kind, bytes) in VALUES {
         print_printed(rt, kind, bytes)?;
     }
@@ -142,27 +142,29 @@ fn print_values(rt: &(impl Print + AllocGlobal)) -> Result<(), Fault> {
 }
 
 // The bytes of the document that a text is read as.
-fn print_form(rt: &(impl Print + AllocGlobal), text: &str) -> Result<(), Fault> {
+fn print_form(rt: &HostRuntime, text: &str) -> Result<(), Fault> {
     let bytes = document_of(rt.alloc(), text)?;
-    println!(rt; "json {text}: {}", Hex(bytes.slice()))?;
-    Ok(())
+    print_line(rt, format_args!("json {text}: {}", Hex(bytes.slice())))
 }
 
 fn document_of(alloc: Global, text: &str) -> Result<Bytes, Fault> {
     let json = accepted(Json::from_str(alloc, text))?;
     let value = accepted(from_json(alloc, &json))?;
+    encoded(alloc, &value)
+}
+
+fn encoded(alloc: Global, value: &Value) -> Result<Bytes, Fault> {
     match value.as_document() {
         Some(document) => accepted(encode(alloc, document)),
         None => Err(Fault::Refused),
     }
 }
 
-fn print_no_form(rt: &(impl Print + AllocGlobal), text: &str) -> Result<(), Fault> {
+fn print_no_form(rt: &HostRuntime, text: &str) -> Result<(), Fault> {
     match fault_of(rt.alloc(), text)? {
-        None => println!(rt; "json {text}: read")?,
-        Some(fault) => println!(rt; "json {text}: {fault:?}")?,
+        None => print_line(rt, format_args!("json {text}: read")),
+        Some(fault) => print_line(rt, format_args!("json {text}: {fault:?}")),
     }
-    Ok(())
 }
 
 fn fault_of(alloc: Global, text: &str) -> Result<Option<JsonFault>, Fault> {
@@ -171,12 +173,14 @@ fn fault_of(alloc: Global, text: &str) -> Result<Option<JsonFault>, Fault> {
 }
 
 // So many arrays, each inside the other, round the text.
-fn print_nested(rt: &(impl Print + AllocGlobal), levels: usize, text: &str) -> Result<(), Fault> {
+fn print_nested(rt: &HostRuntime, levels: usize, text: &str) -> Result<(), Fault> {
     match nested_fault(rt.alloc(), levels, text)? {
-        None => println!(rt; "json {text} in {levels} arrays: read")?,
-        Some(fault) => println!(rt; "json {text} in {levels} arrays: {fault:?}")?,
+        None => print_line(rt, format_args!("json {text} in {levels} arrays: read")),
+        Some(fault) => print_line(
+            rt,
+            format_args!("json {text} in {levels} arrays: {fault:?}"),
+        ),
     }
-    Ok(())
 }
 
 fn nested_fault(alloc: Global, levels: usize, text: &str) -> Result<Option<JsonFault>, Fault> {
@@ -190,18 +194,15 @@ fn in_arrays(alloc: Global, levels: usize, text: &str) -> Result<String, AllocEr
     format!(in alloc; "{open}{text}{close}")
 }
 
-fn print_printed(rt: &(impl Print + AllocGlobal), kind: u8, bytes: &[u8]) -> Result<(), Fault> {
-    match text_of(rt.alloc(), kind, bytes)? {
-        Ok(text) => println!(rt; "value {kind} {}: {text}", Hex(bytes))?,
-        Err(fault) => println!(rt; "value {kind} {}: {fault:?}", Hex(bytes))?,
+fn print_printed(rt: &HostRuntime, kind: u8, bytes: &[u8]) -> Result<(), Fault> {
+    let value = accepted(value_from(rt.alloc(), kind, bytes))?;
+    match to_json(rt.alloc(), &value) {
+        Ok(json) => print_json(rt, kind, bytes, &json),
+        Err(fault) => print_line(rt, format_args!("value {kind} {}: {fault:?}", Hex(bytes))),
     }
-    Ok(())
 }
 
-fn text_of(alloc: Global, kind: u8, bytes: &[u8]) -> Result<Result<String, JsonFault>, Fault> {
-    let value = accepted(value_from(alloc, kind, bytes))?;
-    match to_json(alloc, &value) {
-        Ok(json) => Ok(Ok(json.to_string(alloc)?)),
-        Err(fault) => Ok(Err(fault)),
-    }
+fn print_json(rt: &HostRuntime, kind: u8, bytes: &[u8], json: &Json) -> Result<(), Fault> {
+    let text = json.to_string(rt.alloc())?;
+    print_line(rt, format_args!("value {kind} {}: {text}", Hex(bytes)))
 }

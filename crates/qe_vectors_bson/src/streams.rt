@@ -1,7 +1,7 @@
 //! Documents that come in pieces.
 
 use qe_bson::{BsonFault, Reader};
-use qe_line::{Fault, Hex, accepted};
+use qe_line::{Fault, Hex, accepted, print_line};
 
 // A document with a field of each type.
 const DOCUMENT: &[u8] =
@@ -12,20 +12,25 @@ const DOCUMENT: &[u8] =
       \xff\xff\x13z\0\0\x01\x02\x03\x04\x05\x06\x07\x08\x09\x0a\x0b\x0c\x0d\x0e\x0f\0";
 
 /// Prints what a reader gives of pieces.
-pub fn print(rt: &(impl Print + AllocGlobal)) -> Result<(), Fault> {
+pub fn print(rt: &HostRuntime) -> Result<(), Fault> {
     print_fed(rt)?;
     print_fault(rt)
 }
 
 // A document fed byte by byte, and the beginning of another.
-fn print_fed(rt: &(impl Print + AllocGlobal)) -> Result<(), Fault> {
+fn print_fed(rt: &HostRuntime) -> Result<(), Fault> {
     let mut reader = Reader::new(rt.alloc());
     for (i, byte) in DOCUMENT.iter().enumerate() {
-        if let Some(used) = used_of(&mut reader, &[*byte])? {
-            println!(rt; "fed: a document at byte {i}, {used} used")?;
-        }
+        print_used(rt, &mut reader, i, *byte)?;
     }
     print_unfinished(rt, reader)
+}
+
+fn print_used(rt: &HostRuntime, reader: &mut Reader, i: usize, byte: u8) -> Result<(), Fault> {
+    match used_of(reader, &[byte])? {
+        None => Ok(()),
+        Some(used) => print_line(rt, format_args!("fed: a document at byte {i}, {used} used")),
+    }
 }
 
 // How many bytes of a piece were used, where a document is whole behind it.
@@ -36,29 +41,30 @@ fn used_of(reader: &mut Reader, piece: &[u8]) -> Result<Option<usize>, Fault> {
     }
 }
 
-fn print_unfinished(rt: &impl Print, reader: Reader) -> Result<(), Fault> {
-    let mut reader = reader;
-    if used_of(&mut reader, &[5, 0, 0])?.is_none() {
-        println!(rt; "finished: {:?}", reader.finish())?;
+fn print_unfinished(rt: &HostRuntime, mut reader: Reader) -> Result<(), Fault> {
+    match used_of(&mut reader, &[5, 0, 0])? {
+        None => print_finished(rt, reader),
+        Some(_) => Err(Fault::Refused),
     }
-    Ok(())
+}
+
+fn print_finished(rt: &HostRuntime, reader: Reader) -> Result<(), Fault> {
+    print_line(rt, format_args!("finished: {:?}", reader.finish()))
 }
 
 // A fault stays.
-fn print_fault(rt: &(impl Print + AllocGlobal)) -> Result<(), Fault> {
+fn print_fault(rt: &HostRuntime) -> Result<(), Fault> {
     let mut reader = Reader::new(rt.alloc());
     print_refused(rt, &mut reader, &[4, 0, 0, 0])?;
     print_refused(rt, &mut reader, &[9])?;
-    println!(rt; "finished: {:?}", reader.finish())?;
-    Ok(())
+    print_finished(rt, reader)
 }
 
-fn print_refused(rt: &impl Print, reader: &mut Reader, piece: &[u8]) -> Result<(), Fault> {
+fn print_refused(rt: &HostRuntime, reader: &mut Reader, piece: &[u8]) -> Result<(), Fault> {
     match fault_of(reader, piece) {
-        None => return Err(Fault::Refused),
-        Some(fault) => println!(rt; "fed {}: {fault:?}", Hex(piece))?,
+        None => Err(Fault::Refused),
+        Some(fault) => print_line(rt, format_args!("fed {}: {fault:?}", Hex(piece))),
     }
-    Ok(())
 }
 
 fn fault_of(reader: &mut Reader, piece: &[u8]) -> Option<BsonFault> {

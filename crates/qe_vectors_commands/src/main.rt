@@ -7,19 +7,25 @@ mod commands;
 use commands::{print_command, schema_of};
 use qe_base::{Lines, StdSource, take_all};
 use qe_line::Fault;
+use qe_schema::Schema;
 
 fn main(rt: HostRuntime) -> Result<(), Fault> {
     let text = take_all(rt.alloc(), &mut StdSource::new(&rt))?;
-    let mut lines = Lines::of(text.slice());
-    let Some((_, first)) = lines.next_line() else {
-        return Err(Fault::Refused);
-    };
-    let schema = schema_of(rt.alloc(), first)?;
-    for _ in 0..text.len() {
-        if let Some((_, line)) = lines.next_line() {
-            if !line.is_empty() {
-                print_command(&rt, &schema, line)?;
-            }
+    print_text(&rt, text.slice())
+}
+
+fn print_text(rt: &HostRuntime, text: &[u8]) -> Result<(), Fault> {
+    let mut lines = Lines::of(text);
+    match lines.next_line() {
+        Some((_, first)) => print_commands(rt, &schema_of(rt.alloc(), first)?, lines),
+        None => Err(Fault::Refused),
+    }
+}
+
+fn print_commands(rt: &HostRuntime, schema: &Schema, mut lines: Lines<'_>) -> Result<(), Fault> {
+    while let Some((_, line)) = lines.next_line() {
+        if !line.is_empty() {
+            print_command(rt, schema, line)?;
         }
     }
     Ok(())

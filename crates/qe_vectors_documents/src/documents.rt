@@ -2,7 +2,7 @@
 
 use qe_base::{Bytes, Duplicate};
 use qe_document::{BsonFault, Document, decode, encode};
-use qe_line::{Fault, Hex, accepted};
+use qe_line::{Fault, Hex, accepted, print_line};
 use std::alloc::Global;
 
 // A field of each type; two fields; none.
@@ -61,7 +61,7 @@ const NAMES: [&[u8]; 10] = [
 ];
 
 /// Prints what is read of bytes.
-pub fn print(rt: &(impl Print + AllocGlobal)) -> Result<(), Fault> {
+pub fn print(rt: &HostRuntime) -> Result<(), Fault> {
     for bytes in WRITTEN {
         print_written(rt, bytes)?;
     }
@@ -70,7 +70,7 @@ pub fn print(rt: &(impl Print + AllocGlobal)) -> Result<(), Fault> {
     print_all(rt, &NAMES)
 }
 
-fn print_all(rt: &(impl Print + AllocGlobal), table: &[&[u8]]) -> Result<(), Fault> {
+fn print_all(rt: &HostRuntime, table: &[&[u8]]) -> Result<(), Fault> {
     for bytes in table {
         print_decoded(rt, bytes)?;
     }
@@ -78,10 +78,12 @@ fn print_all(rt: &(impl Print + AllocGlobal), table: &[&[u8]]) -> Result<(), Fau
 }
 
 // A document, copied and written again.
-fn print_written(rt: &(impl Print + AllocGlobal), bytes: &[u8]) -> Result<(), Fault> {
+fn print_written(rt: &HostRuntime, bytes: &[u8]) -> Result<(), Fault> {
     let (written, used) = written_of(rt.alloc(), bytes)?;
-    println!(rt; "document of {used} bytes: {}", Hex(written.slice()))?;
-    Ok(())
+    print_line(
+        rt,
+        format_args!("document of {used} bytes: {}", Hex(written.slice())),
+    )
 }
 
 fn written_of(alloc: Global, bytes: &[u8]) -> Result<(Bytes, usize), Fault> {
@@ -95,18 +97,18 @@ fn copied(alloc: Global, document: &Document) -> Result<Bytes, Fault> {
     accepted(encode(alloc, &copied))
 }
 
-fn print_decoded(rt: &(impl Print + AllocGlobal), bytes: &[u8]) -> Result<(), Fault> {
+fn print_decoded(rt: &HostRuntime, bytes: &[u8]) -> Result<(), Fault> {
     match read_of(rt.alloc(), bytes) {
-        Ok((fields, used)) => {
-            println!(rt; "decode {}: {fields} fields, {used} bytes", Hex(bytes))?
-        }
-        Err(fault) => println!(rt; "decode {}: {fault:?}", Hex(bytes))?,
+        Ok((fields, used)) => print_line(
+            rt,
+            format_args!("decode {}: {fields} fields, {used} bytes", Hex(bytes)),
+        ),
+        Err(fault) => print_line(rt, format_args!("decode {}: {fault:?}", Hex(bytes))),
     }
-    Ok(())
 }
 
-/// How many fields the document that begins the bytes has, and how many bytes.
-pub fn read_of(alloc: Global, bytes: &[u8]) -> Result<(usize, usize), BsonFault> {
+// How many fields the document that begins the bytes has, and how many bytes.
+fn read_of(alloc: Global, bytes: &[u8]) -> Result<(usize, usize), BsonFault> {
     let (document, used) = decode(alloc, bytes)?;
     Ok((document.len(), used))
 }

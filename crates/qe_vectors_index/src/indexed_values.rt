@@ -2,7 +2,9 @@
 
 use qe_base::{Bytes, Duplicate, Ids, NoMemory};
 use qe_indexed::{Block, IndexedFault, IndexedValue, make_block, open_block};
-use qe_line::{Fault, Hex, accepted, bytes_of, counting};
+use qe_line::{
+    Count, Fault, Hex, accepted, bytes_of, counting, print_answer, print_hex, print_line,
+};
 use qe_tokens::{EdcTwice, ServerDerived};
 use std::alloc::Global;
 
@@ -35,7 +37,7 @@ const OF_ROOT: (&str, &str) = (
 );
 
 /// Prints values, their blocks and what is refused.
-pub fn print(rt: &(impl Print + AllocGlobal)) -> Result<(), Fault> {
+pub fn print(rt: &HostRuntime) -> Result<(), Fault> {
     print_value(rt, &bytes_of::<210>(EQUALITY)?)?;
     print_value(rt, &bytes_of::<227>(RANGE)?)?;
     print_blocks(rt)?;
@@ -44,70 +46,74 @@ pub fn print(rt: &(impl Print + AllocGlobal)) -> Result<(), Fault> {
 }
 
 // The parts of a value, and its bytes again.
-fn print_value(rt: &(impl Print + AllocGlobal), bytes: &[u8]) -> Result<(), Fault> {
+fn print_value(rt: &HostRuntime, bytes: &[u8]) -> Result<(), Fault> {
     let value = accepted(IndexedValue::read(rt.alloc(), bytes))?;
     print_parts(rt, &value)
 }
 
-fn print_parts(rt: &(impl Print + AllocGlobal), value: &IndexedValue) -> Result<(), Fault> {
+fn print_parts(rt: &HostRuntime, value: &IndexedValue) -> Result<(), Fault> {
     print_head(rt, value)?;
     print_all_blocks(rt, value)?;
     print_tags(rt, value)?;
     print_written(rt, value)
 }
 
-fn print_head(rt: &impl Print, value: &IndexedValue) -> Result<(), Fault> {
+fn print_head(rt: &HostRuntime, value: &IndexedValue) -> Result<(), Fault> {
     let (range, kind) = (value.range, value.value_kind);
     let server_value = value.server_value.slice();
-    println!(rt;
-        "indexed: range {range} type {kind} value {}",
-        Hex(server_value)
+    print_line(
+        rt,
+        format_args!(
+            "indexed: range {range} type {kind} value {}",
+            Hex(server_value)
+        ),
     )?;
-    println!(rt; "key id: {}", Hex(&value.key_id))?;
-    Ok(())
+    print_hex(rt, "key id", &value.key_id)
 }
 
-fn print_all_blocks(rt: &impl Print, value: &IndexedValue) -> Result<(), Fault> {
+fn print_all_blocks(rt: &HostRuntime, value: &IndexedValue) -> Result<(), Fault> {
     for i in 0..value.blocks.len() {
-        println!(rt;
-            "block {i}: {} with tag {}",
-            Hex(value.block(i)),
-            Hex(value.tag(i))
-        )?;
+        print_tagged(rt, i, value.block(i), value.tag(i))?;
     }
     Ok(())
 }
 
-fn print_tags(rt: &(impl Print + AllocGlobal), value: &IndexedValue) -> Result<(), Fault> {
+fn print_tagged(rt: &HostRuntime, i: usize, block: &[u8; 96], tag: &[u8; 32]) -> Result<(), Fault> {
+    print_line(
+        rt,
+        format_args!("block {i}: {} with tag {}", Hex(block), Hex(tag)),
+    )
+}
+
+fn print_tags(rt: &HostRuntime, value: &IndexedValue) -> Result<(), Fault> {
     let tags = value.tags(rt.alloc())?;
     print_ids(rt, &tags)
 }
 
-fn print_ids(rt: &impl Print, tags: &Ids) -> Result<(), Fault> {
+fn print_ids(rt: &HostRuntime, tags: &Ids) -> Result<(), Fault> {
     for tag in tags.slice() {
-        println!(rt; "tag: {}", Hex(tag))?;
+        print_hex(rt, "tag", tag)?;
     }
     Ok(())
 }
 
-fn print_written(rt: &(impl Print + AllocGlobal), value: &IndexedValue) -> Result<(), Fault> {
+fn print_written(rt: &HostRuntime, value: &IndexedValue) -> Result<(), Fault> {
     let written = written_of(rt.alloc(), value)?;
-    println!(rt; "written: {}", Hex(written.slice()))?;
-    Ok(())
+    print_hex(rt, "written", written.slice())
 }
 
 fn written_of(alloc: Global, value: &IndexedValue) -> Result<Bytes, NoMemory> {
     value.copy()?.write(alloc)
 }
 
-fn print_blocks(rt: &impl Print) -> Result<(), Fault> {
+fn print_blocks(rt: &HostRuntime) -> Result<(), Fault> {
     let ivs = [counting(0xa0), counting(0xb0)];
     print_made(rt, OF_FIVE, 3, 1, &ivs)?;
     print_made(rt, OF_ROOT, u64::MAX, 7, &[ivs[1], ivs[0]])
 }
 
 fn print_made(
-    rt: &impl Print,
+    rt: &HostRuntime,
     (edc, server): (&str, &str),
     count: u64,
     contention: u64,
@@ -118,24 +124,24 @@ fn print_made(
     print_block(rt, &block, &server)
 }
 
-fn print_block(rt: &impl Print, block: &[u8; 96], server: &ServerDerived) -> Result<(), Fault> {
-    println!(rt; "made: {}", Hex(&Block(*block).copy()?.0))?;
+fn print_block(rt: &HostRuntime, block: &[u8; 96], server: &ServerDerived) -> Result<(), Fault> {
+    print_hex(rt, "made", &Block(*block).copy()?.0)?;
     let (count, contention, zeros) = open_block(block, server);
-    println!(rt; "opened: {count} {contention} {zeros}")?;
-    Ok(())
+    print_line(rt, format_args!("opened: {count} {contention} {zeros}"))
 }
 
 // The zeros of another item's block aren't zeros.
-fn print_foreign(rt: &(impl Print + AllocGlobal)) -> Result<(), Fault> {
+fn print_foreign(rt: &HostRuntime) -> Result<(), Fault> {
     let bytes: [u8; 227] = bytes_of(RANGE)?;
     let value = accepted(IndexedValue::read(rt.alloc(), &bytes))?;
     print_zeros(rt, &value)
 }
 
-fn print_zeros(rt: &impl Print, value: &IndexedValue) -> Result<(), Fault> {
+fn print_zeros(rt: &HostRuntime, value: &IndexedValue) -> Result<(), Fault> {
     let server = ServerDerived(bytes_of(OF_ROOT.1)?);
     for block in value.blocks.slice() {
-        println!(rt; "zeros: {}", open_block(&block.0, &server).2)?;
+        let (_, _, zeros) = open_block(&block.0, &server);
+        print_line(rt, format_args!("zeros: {zeros}"))?;
     }
     Ok(())
 }
@@ -159,27 +165,31 @@ const REFUSED: [(u8, u8, usize); 14] = [
 ];
 
 // The first refusal of a value's first bytes.
-fn print_refusals(rt: &(impl Print + AllocGlobal)) -> Result<(), Fault> {
+fn print_refusals(rt: &HostRuntime) -> Result<(), Fault> {
     for (first, count, size) in REFUSED {
-        let mut bytes = [0; 300];
-        bytes[0] = first;
-        bytes[18] = count;
-        print_read(rt, &bytes[..size.min(300)])?;
+        print_refused(rt, first, count, size)?;
     }
     Ok(())
 }
 
-fn print_read(rt: &(impl Print + AllocGlobal), bytes: &[u8]) -> Result<(), Fault> {
+fn print_refused(rt: &HostRuntime, first: u8, count: u8, size: usize) -> Result<(), Fault> {
+    let mut bytes = [0; 300];
+    bytes[0] = first;
+    bytes[18] = count;
+    print_read(rt, &bytes[..size.min(300)])
+}
+
+fn print_read(rt: &HostRuntime, bytes: &[u8]) -> Result<(), Fault> {
     let size = bytes.len();
     let head = Hex(&bytes[..size.min(19)]);
-    match blocks_in(rt.alloc(), bytes) {
-        Ok(blocks) => println!(rt; "{size} bytes {head}: {blocks} blocks")?,
-        Err(fault) => println!(rt; "{size} bytes {head}: {fault:?}")?,
-    }
-    Ok(())
+    print_answer(
+        rt,
+        format_args!("{size} bytes {head}"),
+        blocks_in(rt.alloc(), bytes),
+    )
 }
 
-fn blocks_in(alloc: Global, bytes: &[u8]) -> Result<usize, IndexedFault> {
+fn blocks_in(alloc: Global, bytes: &[u8]) -> Result<Count<'static>, IndexedFault> {
     let value = IndexedValue::read(alloc, bytes)?;
-    Ok(value.blocks.len())
+    Ok(Count(value.blocks.len(), "blocks"))
 }

@@ -1,8 +1,12 @@
 //! Payloads of inserts, as another program writes them.
 
-use qe_base::Bytes;
+ghost use Rattle.std.specs.Prelude.{◌≡◌};
+ghost use Rattle.qe_insert.specs.Insert.{FewEdges};
+ghost use Rattle.qe_parts.specs.Carried.{extra_names, picked};
+
+use qe_base::{Bytes, NoMemory};
 use qe_document::{BsonFault, BsonKind, Document, Value};
-use qe_line::{Fault, Hex, accepted};
+use qe_line::{Fault, Hex, accepted, print_hex, print_line};
 use qe_parts::put;
 use qe_payload::{
     Cipher, EdgeList, EdgeTokens, InsertPayload, Kind, Malformed, read_insert, write_insert,
@@ -73,6 +77,22 @@ const CIPHERS: [&str; 5] = [
     dddddddddddddddddddddddddddddddddddddddddddddddddddddddddd000000",
 ];
 
+// Payloads that are refused.
+const REFUSED: [&str; 12] = [
+    "0c0500000000",
+    "0b0500000000",
+    "0b080000000a780000",
+    "0b2c0000000564001f000000001111111111111111111111111111111111111111111111111111111111111100",
+    "0b1d00000005750010000000004444444444444444444444444444444400",
+    "0b10000000126b00ffffffffffffffff00",
+    "0b10000000127400010000000000000000",
+    "0b0d000000046700050000000000",
+    EDGES_66,
+    "0b080000000a670000",
+    "0b1800000004670010000000033000080000000a6400000000",
+    "0b150000000467000d00000003300005000000000000",
+];
+
 const EDGE: EdgeTokens = EdgeTokens {
     d: [0xaa; 32],
     s: [0xbb; 32],
@@ -81,107 +101,130 @@ const EDGE: EdgeTokens = EdgeTokens {
 };
 
 /// Prints what is read, written and refused.
-pub fn print(rt: &(impl Print + AllocGlobal)) -> Result<(), Fault> {
-    for digits in [WRITTEN, REVERSED, OF_A_RANGE] {
-        print_read(rt, digits)?;
-    }
+pub fn print(rt: &HostRuntime) -> Result<(), Fault> {
+    print_all(rt, &[WRITTEN, REVERSED, OF_A_RANGE])?;
     print_written(rt)?;
     print_refusals(rt)?;
     print_cuts(rt)
 }
 
-fn print_written(rt: &(impl Print + AllocGlobal)) -> Result<(), Fault> {
+fn print_written(rt: &HostRuntime) -> Result<(), Fault> {
     let equality = equality_of(rt.alloc())?;
-    println!(rt; "insert of an equality: {}", Hex(equality.slice()))?;
-    let range = range_of(rt.alloc())?;
-    println!(rt; "insert of a range: {}", Hex(range.slice()))?;
-    Ok(())
+    print_hex(rt, "insert of an equality", equality.slice())?;
+    print_range(rt)
 }
 
-fn print_read(rt: &(impl Print + AllocGlobal), digits: &str) -> Result<(), Fault> {
+fn print_range(rt: &HostRuntime) -> Result<(), Fault> {
+    let range = range_of(rt.alloc())?;
+    print_hex(rt, "insert of a range", range.slice())
+}
+
+fn print_read(rt: &HostRuntime, digits: &str) -> Result<(), Fault> {
     let blob = hex::decode(rt.alloc(), digits)?;
-    match read_insert(rt.alloc(), blob.as_slice()) {
+    print_blob(rt, digits, blob.as_slice())
+}
+
+fn print_blob(rt: &HostRuntime, digits: &str, blob: &[u8]) -> Result<(), Fault> {
+    match read_insert(rt.alloc(), blob) {
         Ok(payload) => print_payload(rt, &payload),
         Err(fault) => print_malformed(rt, "insert", digits, &fault),
     }
 }
 
-fn print_payload(rt: &impl Print, payload: &InsertPayload) -> Result<(), Fault> {
-    for (name, token) in [
-        ("d", &payload.d),
-        ("s", &payload.s),
-        ("e", &payload.e),
-        ("l", &payload.l),
-    ] {
-        println!(rt; "{name} {}", Hex(token))?;
-    }
-    println!(rt; "p {} u {}", Hex(payload.p.bytes()), Hex(&payload.u))?;
-    println!(rt;
-        "t {} k {} v {}",
-        payload.t,
-        payload.k,
-        Hex(payload.v.slice())
-    )?;
+fn print_payload(rt: &HostRuntime, payload: &InsertPayload) -> Result<(), Fault> {
+    print_tokens(rt, payload)?;
+    print_ciphers(rt, payload)?;
     if let Some(edges) = &payload.g {
         print_edges(rt, edges)?;
     }
     print_carried(rt, &payload.extra)
 }
 
-fn print_edges(rt: &impl Print, edges: &EdgeList) -> Result<(), Fault> {
+fn print_tokens(rt: &HostRuntime, payload: &InsertPayload) -> Result<(), Fault> {
+    print_named(rt, "d", &payload.d)?;
+    print_named(rt, "s", &payload.s)?;
+    print_named(rt, "e", &payload.e)?;
+    print_named(rt, "l", &payload.l)
+}
+
+fn print_named(rt: &HostRuntime, name: &str, bytes: &[u8]) -> Result<(), Fault> {
+    print_line(rt, format_args!("{name} {}", Hex(bytes)))
+}
+
+fn print_ciphers(rt: &HostRuntime, payload: &InsertPayload) -> Result<(), Fault> {
+    print_line(
+        rt,
+        format_args!("p {} u {}", Hex(payload.p.bytes()), Hex(&payload.u)),
+    )?;
+    print_line(
+        rt,
+        format_args!(
+            "t {} k {} v {}",
+            payload.t,
+            payload.k,
+            Hex(payload.v.slice())
+        ),
+    )
+}
+
+fn print_edges(rt: &HostRuntime, edges: &EdgeList) -> Result<(), Fault> {
     for edge in edges.slice() {
-        println!(rt; "edge d {} s {}", Hex(&edge.d), Hex(&edge.s))?;
-        println!(rt; "edge l {} p {}", Hex(&edge.l), Hex(edge.p.bytes()))?;
+        print_edge(rt, edge)?;
     }
     Ok(())
 }
 
+fn print_edge(rt: &HostRuntime, edge: &EdgeTokens) -> Result<(), Fault> {
+    print_line(
+        rt,
+        format_args!("edge d {} s {}", Hex(&edge.d), Hex(&edge.s)),
+    )?;
+    print_line(
+        rt,
+        format_args!("edge l {} p {}", Hex(&edge.l), Hex(edge.p.bytes())),
+    )
+}
+
 /// Prints the names of what is carried.
-pub fn print_carried(rt: &impl Print, extra: &Document) -> Result<(), Fault> {
+pub fn print_carried(rt: &HostRuntime, extra: &Document) -> Result<(), Fault> {
     for i in 0..extra.len() {
-        println!(rt; "carried {}", extra.name(i))?;
+        print_line(rt, format_args!("carried {}", extra.name(i)))?;
     }
     Ok(())
 }
 
 /// Prints a refusal and its path.
 pub fn print_malformed(
-    rt: &impl Print,
+    rt: &HostRuntime,
     what: &str,
     digits: &str,
     fault: &Malformed,
 ) -> Result<(), Fault> {
     match fault {
-        Malformed::At { path, kind } => println!(rt;
-            "{what} {digits}: {} {kind:?}",
-            path.as_str()
-        )?,
-        Malformed::NoMemory => return Err(Fault::NoMemory),
+        Malformed::At { path, kind } => print_line(
+            rt,
+            format_args!("{what} {digits}: {} {kind:?}", path.as_str()),
+        ),
+        Malformed::NoMemory => Err(Fault::NoMemory),
     }
-    Ok(())
 }
 
 fn equality_of(alloc: Global) -> Result<Bytes, Fault> {
-    let payload = InsertPayload {
-        d: [0x11; 32],
-        s: [0x22; 32],
-        p: Cipher::Old([0x33; 48]),
-        u: [0x44; 16],
-        t: 16,
-        v: Bytes::from_slice(alloc, &[0x55; 80])?,
-        e: [0x66; 32],
-        l: [0x77; 32],
-        k: 5,
-        g: None,
-        extra: Document::new(alloc),
-    };
-    accepted(write_insert(alloc, &payload))
+    written_of(alloc, None, Document::new(alloc))
 }
 
 fn range_of(alloc: Global) -> Result<Bytes, Fault> {
+    let edges = EdgeList::from_slice(alloc, &[EDGE, EDGE])?;
     let mut extra = Document::new(alloc);
     put(alloc, &mut extra, "sp", Value::Int64(2))?;
     put(alloc, &mut extra, "mx", Value::Int32(7))?;
+    written_of(alloc, Some(edges), extra)
+}
+
+fn written_of(alloc: Global, g: Option<EdgeList>, extra: Document) -> Result<Bytes, Fault>
+    requires edges { FewEdges g }
+    requires extra { extra ≡ picked extra_names extra }
+{
     let payload = InsertPayload {
         d: [0x11; 32],
         s: [0x22; 32],
@@ -192,47 +235,43 @@ fn range_of(alloc: Global) -> Result<Bytes, Fault> {
         e: [0x66; 32],
         l: [0x77; 32],
         k: 5,
-        g: Some(EdgeList::from_slice(alloc, &[EDGE, EDGE])?),
+        g,
         extra,
     };
     accepted(write_insert(alloc, &payload))
 }
 
-fn print_refusals(rt: &(impl Print + AllocGlobal)) -> Result<(), Fault> {
-    for digits in [
-        "0c0500000000",
-        "0b0500000000",
-        "0b080000000a780000",
-        "0b2c0000000564001f000000001111111111111111111111111111111111111111111111111111111111111100",
-        "0b1d00000005750010000000004444444444444444444444444444444400",
-        "0b10000000126b00ffffffffffffffff00",
-        "0b10000000127400010000000000000000",
-        "0b0d000000046700050000000000",
-        EDGES_66,
-        "0b080000000a670000",
-        "0b1800000004670010000000033000080000000a6400000000",
-        "0b150000000467000d00000003300005000000000000",
-    ] {
-        print_read(rt, digits)?;
-    }
-    for digits in CIPHERS {
+fn print_refusals(rt: &HostRuntime) -> Result<(), Fault> {
+    print_all(rt, &REFUSED)?;
+    print_all(rt, &CIPHERS)
+}
+
+fn print_all(rt: &HostRuntime, blobs: &[&str]) -> Result<(), Fault> {
+    for digits in blobs {
         print_read(rt, digits)?;
     }
     Ok(())
 }
 
 // A payload that is cut lacks bytes wherever it is cut.
-fn print_cuts(rt: &(impl Print + AllocGlobal)) -> Result<(), Fault> {
+fn print_cuts(rt: &HostRuntime) -> Result<(), Fault> {
     print_read(rt, "")?;
     let blob = hex::decode(rt.alloc(), WRITTEN)?;
+    let short = short_cuts(rt.alloc(), blob.as_slice());
+    print_line(
+        rt,
+        format_args!("cut inserts that are short at their end: {short}"),
+    )
+}
+
+fn short_cuts(alloc: Global, blob: &[u8]) -> u64 {
     let mut short = 0u64;
     for place in 0..blob.len().saturating_sub(1) {
-        if is_short_at(rt.alloc(), &blob[..place + 1], place) {
+        if is_short_at(alloc, &blob[..place + 1], place) {
             short = short.saturating_add(1);
         }
     }
-    println!(rt; "cut inserts that are short at their end: {short}")?;
-    Ok(())
+    short
 }
 
 fn is_short_at(alloc: Global, blob: &[u8], place: usize) -> bool {

@@ -2,7 +2,7 @@
 
 use crate::inserts::print_malformed;
 use qe_base::{Lines, StdSource, take_all};
-use qe_line::{Fault, Hex, accepted};
+use qe_line::{Fault, Hex, accepted, print_line};
 use qe_payload::{
     read_equal, read_insert, read_range, what_is_read_fits, write_equal, write_insert, write_range,
 };
@@ -22,46 +22,47 @@ pub fn print(rt: &HostRuntime) -> Result<(), Fault> {
     Ok(())
 }
 
-fn print_again(rt: &(impl Print + AllocGlobal), line: &[u8]) -> Result<(), Fault> {
+fn print_again(rt: &HostRuntime, line: &[u8]) -> Result<(), Fault> {
     let blob = hex::decode(rt.alloc(), line)?;
+    print_blob(rt, blob.as_slice())
+}
+
+fn print_blob(rt: &HostRuntime, blob: &[u8]) -> Result<(), Fault> {
     match blob.first() {
-        Some(11) => print_insert(rt, blob.as_slice()),
-        Some(12) => print_equal(rt, blob.as_slice()),
-        _ => print_range(rt, blob.as_slice()),
+        Some(11) => print_insert(rt, blob),
+        Some(12) => print_equal(rt, blob),
+        _ => print_range(rt, blob),
     }
 }
 
-fn print_insert(rt: &(impl Print + AllocGlobal), blob: &[u8]) -> Result<(), Fault> {
+fn print_insert(rt: &HostRuntime, blob: &[u8]) -> Result<(), Fault> {
     what_is_read_fits();
     match read_insert(rt.alloc(), blob) {
         Ok(payload) => {
             let again = accepted(write_insert(rt.alloc(), &payload))?;
-            println!(rt; "{}", Hex(again.slice()))?;
-            Ok(())
+            print_line(rt, Hex(again.slice()))
         }
         Err(fault) => print_malformed(rt, "insert", "of libmongocrypt", &fault),
     }
 }
 
-fn print_equal(rt: &(impl Print + AllocGlobal), blob: &[u8]) -> Result<(), Fault> {
+fn print_equal(rt: &HostRuntime, blob: &[u8]) -> Result<(), Fault> {
     what_is_read_fits();
     match read_equal(rt.alloc(), blob) {
         Ok(payload) => {
             let again = accepted(write_equal(rt.alloc(), &payload))?;
-            println!(rt; "{}", Hex(again.slice()))?;
-            Ok(())
+            print_line(rt, Hex(again.slice()))
         }
         Err(fault) => print_malformed(rt, "find", "of libmongocrypt", &fault),
     }
 }
 
-fn print_range(rt: &(impl Print + AllocGlobal), blob: &[u8]) -> Result<(), Fault> {
+fn print_range(rt: &HostRuntime, blob: &[u8]) -> Result<(), Fault> {
     what_is_read_fits();
     match read_range(rt.alloc(), blob) {
         Ok(payload) => {
             let again = accepted(write_range(rt.alloc(), &payload))?;
-            println!(rt; "{}", Hex(again.slice()))?;
-            Ok(())
+            print_line(rt, Hex(again.slice()))
         }
         Err(fault) => print_malformed(rt, "find of a range", "of libmongocrypt", &fault),
     }

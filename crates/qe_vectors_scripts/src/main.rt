@@ -1,9 +1,10 @@
 //! Prints what `read_script` answers to scripts: standard input holds them, each behind a line `# NAME`, and `stdout` what
 //! an independent program answers. A refused script has its refusal, any other its header, its commands and its documents as
-//! a find prints them. Read: command, replies, script.
+//! a find prints them. Read: part, command, replies, script.
 #![tactic(auto)]
 
 mod command;
+mod part;
 mod replies;
 mod script;
 

@@ -1,23 +1,53 @@
 //! Replies as lines.
 
 use qe_base::{Duplicate, Listing};
-use qe_line::{Fault, accepted};
+use qe_line::{Fault, accepted, print_line};
 use qe_schema::{PlainDocument, PlainReply, Schema};
 use qe_script::reply_text;
 
-fn print_reply(
-    rt: &(impl Print + AllocGlobal),
-    schema: &Schema,
-    reply: &PlainReply,
-) -> Result<(), Fault> {
+const REPLIES: [PlainReply; 18] = [
+    PlainReply::Inserted,
+    PlainReply::DuplicateId,
+    PlainReply::Updated(1),
+    PlainReply::Deleted(0),
+    PlainReply::Begun(2),
+    PlainReply::Stepped(u64::MAX),
+    PlainReply::Ended(0),
+    PlainReply::Ended(7),
+    PlainReply::Abandoned,
+    PlainReply::JobRunning(3),
+    PlainReply::NotDone(5),
+    PlainReply::NoJob {
+        asked: 4,
+        running: 0,
+    },
+    PlainReply::TokenMissing(0),
+    PlainReply::TokenMismatch(1),
+    PlainReply::Raised(6),
+    PlainReply::NotRaised {
+        asked: 1,
+        current: 2,
+    },
+    PlainReply::ContentionBelow {
+        field: 0,
+        got: 1,
+        current: 2,
+    },
+    PlainReply::ContentionOver {
+        field: 1,
+        got: 9,
+        current: 8,
+    },
+];
+
+fn print_reply(rt: &HostRuntime, schema: &Schema, reply: &PlainReply) -> Result<(), Fault> {
     let text = accepted(reply_text(rt.alloc(), schema, reply))?;
-    println!(rt; "{}", text.as_str())?;
-    Ok(())
+    print_line(rt, text.as_str())
 }
 
 /// Prints a document as a find prints it.
 pub fn print_found(
-    rt: &(impl Print + AllocGlobal),
+    rt: &HostRuntime,
     schema: &Schema,
     document: &PlainDocument,
 ) -> Result<(), Fault> {
@@ -26,58 +56,10 @@ pub fn print_found(
     print_reply(rt, schema, &PlainReply::Found(found))
 }
 
-fn print_counts(rt: &(impl Print + AllocGlobal), schema: &Schema) -> Result<(), Fault> {
-    print_reply(rt, schema, &PlainReply::Inserted)?;
-    print_reply(rt, schema, &PlainReply::DuplicateId)?;
-    print_reply(rt, schema, &PlainReply::Updated(1))?;
-    print_reply(rt, schema, &PlainReply::Deleted(0))
-}
-
-fn print_jobs(rt: &(impl Print + AllocGlobal), schema: &Schema) -> Result<(), Fault> {
-    print_reply(rt, schema, &PlainReply::Begun(2))?;
-    print_reply(rt, schema, &PlainReply::Stepped(u64::MAX))?;
-    print_reply(rt, schema, &PlainReply::Ended(0))?;
-    print_reply(rt, schema, &PlainReply::Ended(7))?;
-    print_reply(rt, schema, &PlainReply::Abandoned)?;
-    print_reply(rt, schema, &PlainReply::JobRunning(3))?;
-    print_reply(rt, schema, &PlainReply::NotDone(5))
-}
-
-fn print_pairs(rt: &(impl Print + AllocGlobal), schema: &Schema) -> Result<(), Fault> {
-    let none = PlainReply::NoJob {
-        asked: 4,
-        running: 0,
-    };
-    print_reply(rt, schema, &none)?;
-    print_reply(rt, schema, &PlainReply::TokenMissing(0))?;
-    print_reply(rt, schema, &PlainReply::TokenMismatch(1))
-}
-
-fn print_raises(rt: &(impl Print + AllocGlobal), schema: &Schema) -> Result<(), Fault> {
-    print_reply(rt, schema, &PlainReply::Raised(6))?;
-    let kept = PlainReply::NotRaised {
-        asked: 1,
-        current: 2,
-    };
-    print_reply(rt, schema, &kept)?;
-    let below = PlainReply::ContentionBelow {
-        field: 0,
-        got: 1,
-        current: 2,
-    };
-    print_reply(rt, schema, &below)?;
-    let over = PlainReply::ContentionOver {
-        field: 1,
-        got: 9,
-        current: 8,
-    };
-    print_reply(rt, schema, &over)
-}
-
 /// Prints a reply of each kind without documents, of the fields 0 and 1.
-pub fn print_each(rt: &(impl Print + AllocGlobal), schema: &Schema) -> Result<(), Fault> {
-    print_counts(rt, schema)?;
-    print_jobs(rt, schema)?;
-    print_pairs(rt, schema)?;
-    print_raises(rt, schema)
+pub fn print_each(rt: &HostRuntime, schema: &Schema) -> Result<(), Fault> {
+    for reply in &REPLIES {
+        print_reply(rt, schema, reply)?;
+    }
+    Ok(())
 }

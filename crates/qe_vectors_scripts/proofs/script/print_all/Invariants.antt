@@ -3,4 +3,4 @@ use Rattle.std.proofs.Common.{length}
 use Rattle.qe_vectors_scripts.proofs.script.print_all.Given as goal
 
 abbrev pub decreases-loop-line : goal.decreases-loop-line
-decreases-loop-line g l = length l.lines
+decreases-loop-line l = length l.lines

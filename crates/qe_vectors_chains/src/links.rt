@@ -2,34 +2,46 @@
 
 ghost use Rattle.std.specs.Prelude.{◌≡◌, ◌<◌};
 
-use crate::line::{Word, bytes_of, numbers_of, print_numbers};
 use qe_base::{NoMemory, Steps};
 use qe_chains::Chains;
 use qe_line::{Fault, print_line};
+use qe_line_words::{Spaced, SpacedTags, bytes_of, kind_of, numbers_of};
 use std::marker::Brand;
 use std::sync::ledger::{Blank, Ledger};
 
 /// Carries the words of a line out: `l` links a tag and a document, `u` unlinks a document, `t` and `d` print the
 /// documents of a tag and the tags of a document, `n` the number of nodes, `r` makes rounds of a document with so many
 /// tags, and `c` goes on with a copy.
-pub fn print(rt: &HostRuntime, words: &[Word<'_>]) -> Result<(), Fault> {
+pub fn print(rt: &HostRuntime, line: &str) -> Result<(), Fault> {
+    match line.split_once(' ') {
+        Some((_, words)) => print_words(rt, words),
+        None => Ok(()),
+    }
+}
+
+fn print_words(rt: &HostRuntime, words: &str) -> Result<(), Fault> {
     let mut chains = Chains::new(rt.alloc());
-    for word in words {
+    for word in words.split(' ') {
         carry_out(rt, &mut chains, word)?;
     }
     Ok(())
 }
 
-fn carry_out(rt: &HostRuntime, chains: &mut Chains, word: &Word<'_>) -> Result<(), Fault> {
-    match word.kind {
-        "chains" => Ok(()),
+fn carry_out(rt: &HostRuntime, chains: &mut Chains, word: &str) -> Result<(), Fault> {
+    match kind_of(word) {
+        "l" => link_both(chains, numbers_of(word)?),
+        "u" => print_unlinked(rt, chains, numbers_of(word)?),
         "c" => go_on_with_copy(chains),
-        "l" => link_word(chains, word),
-        "u" => print_unlinked(rt, chains, word.number(0)?),
-        "t" => print_documents(rt, chains, word.number(0)?),
-        "d" => print_tags(rt, chains, word.number(0)?),
+        "r" => rounds(chains, numbers_of(word)?),
+        _ => print_asked(rt, chains, word),
+    }
+}
+
+fn print_asked(rt: &HostRuntime, chains: &Chains, word: &str) -> Result<(), Fault> {
+    match kind_of(word) {
+        "t" => print_documents(rt, chains, numbers_of(word)?),
+        "d" => print_tags(rt, chains, numbers_of(word)?),
         "n" => print_line(rt, format_args!("nodes {}", chains.nodes())),
-        "r" => rounds(chains, word),
         _ => Err(Fault::Refused),
     }
 }
@@ -40,19 +52,19 @@ fn go_on_with_copy(chains: &mut Chains) -> Result<(), Fault> {
     Ok(())
 }
 
-fn link_word(chains: &mut Chains, word: &Word<'_>) -> Result<(), Fault> {
-    link(chains, word.number(0)?, word.number(1)?)?;
+fn link_both(chains: &mut Chains, [tag, document]: [u64; 2]) -> Result<(), Fault> {
+    link(chains, tag, document)?;
     Ok(())
 }
 
-fn print_documents(rt: &HostRuntime, chains: &Chains, tag: u64) -> Result<(), Fault> {
+fn print_documents(rt: &HostRuntime, chains: &Chains, [tag]: [u64; 1]) -> Result<(), Fault> {
     let list = chains.with_tag(&bytes_of(tag))?;
-    print_numbers(rt, "documents", list.slice())
+    print_line(rt, format_args!("documents{}", Spaced(list.slice())))
 }
 
-fn print_tags(rt: &HostRuntime, chains: &Chains, document: u64) -> Result<(), Fault> {
-    let list = numbers_of(rt.alloc(), chains.with_document(document)?.slice())?;
-    print_numbers(rt, "tags", list.slice())
+fn print_tags(rt: &HostRuntime, chains: &Chains, [document]: [u64; 1]) -> Result<(), Fault> {
+    let list = chains.with_document(document)?;
+    print_line(rt, format_args!("tags{}", SpacedTags(list.slice())))
 }
 
 fn link(chains: &mut Chains, tag: u64, document: u64) -> Result<(), NoMemory> {
@@ -62,7 +74,11 @@ fn link(chains: &mut Chains, tag: u64, document: u64) -> Result<(), NoMemory> {
 }
 
 // How many pairs a document had, and has.
-fn print_unlinked(rt: &HostRuntime, chains: &mut Chains, document: u64) -> Result<(), Fault> {
+fn print_unlinked(
+    rt: &HostRuntime,
+    chains: &mut Chains,
+    [document]: [u64; 1],
+) -> Result<(), Fault> {
     let before = pairs_of(chains, document)?;
     unlink(chains, document);
     let after = pairs_of(chains, document)?;
@@ -86,8 +102,7 @@ fn unlink_on<L: Ledger>(chains: &mut Chains, document: u64, blank: Blank)
     chains.unlink_document(document, &mut Steps::<L>::new(blank));
 }
 
-fn rounds(chains: &mut Chains, word: &Word<'_>) -> Result<(), Fault> {
-    let (rounds, tags) = (word.number(0)?, word.number(1)?);
+fn rounds(chains: &mut Chains, [rounds, tags]: [u64; 2]) -> Result<(), Fault> {
     for _ in 0..rounds {
         round(chains, tags)?;
     }

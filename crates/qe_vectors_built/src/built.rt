@@ -2,19 +2,19 @@
 
 use crate::nested::{put, size_of};
 use qe_base::{Bytes, Text};
-use qe_document::{Document, PushFault, Value, Values, value_bytes, value_from, value_kind};
-use qe_line::{Fault, Hex, accepted};
+use qe_document::{Document, PushFault, Value, Values, value_bytes, value_from};
+use qe_line::{Fault, accepted, print_hex, print_line};
 use std::alloc::Global;
 
 /// Prints a document of two fields, and what it refuses.
-pub fn print(rt: &(impl Print + AllocGlobal)) -> Result<(), Fault> {
+pub fn print(rt: &HostRuntime) -> Result<(), Fault> {
     print_two(rt)?;
     print_again(rt)?;
     print_zero(rt)?;
     print_value(rt)
 }
 
-fn print_two(rt: &(impl Print + AllocGlobal)) -> Result<(), Fault> {
+fn print_two(rt: &HostRuntime) -> Result<(), Fault> {
     let document = two_fields(rt.alloc())?;
     print_fields(rt, &document)?;
     print_items(rt, &document)
@@ -38,27 +38,36 @@ fn one_item(alloc: Global) -> Result<Values, Fault> {
     Ok(items)
 }
 
-fn print_fields(rt: &impl Print, document: &Document) -> Result<(), Fault> {
+fn print_fields(rt: &HostRuntime, document: &Document) -> Result<(), Fault> {
     for i in 0..document.len() {
         let is_document = document.value(i).as_document().is_some();
-        println!(rt; "field {i}: {}, a document {is_document}", document.name(i))?;
+        print_field(rt, i, document.name(i), is_document)?;
     }
     Ok(())
 }
 
-fn print_items(rt: &impl Print, document: &Document) -> Result<(), Fault> {
-    println!(rt; "field b: {}", document.get("b").is_some())?;
+fn print_field(rt: &HostRuntime, i: usize, name: &str, is_document: bool) -> Result<(), Fault> {
+    print_line(
+        rt,
+        format_args!("field {i}: {name}, a document {is_document}"),
+    )
+}
+
+fn print_items(rt: &HostRuntime, document: &Document) -> Result<(), Fault> {
+    print_line(rt, format_args!("field b: {}", document.get("b").is_some()))?;
     if let Some(items) = document.get("a").and_then(Value::as_array) {
-        println!(rt; "items: {} {}", items.len(), items.slice().len())?;
+        print_line(
+            rt,
+            format_args!("items: {} {}", items.len(), items.slice().len()),
+        )?;
     }
     Ok(())
 }
 
 // A name is added once.
-fn print_again(rt: &(impl Print + AllocGlobal)) -> Result<(), Fault> {
+fn print_again(rt: &HostRuntime) -> Result<(), Fault> {
     let again = pushed_again(rt.alloc())?;
-    println!(rt; "again a: {again:?}")?;
-    Ok(())
+    print_line(rt, format_args!("again a: {again:?}"))
 }
 
 fn pushed_again(alloc: Global) -> Result<Result<(), PushFault>, Fault> {
@@ -67,21 +76,18 @@ fn pushed_again(alloc: Global) -> Result<Result<(), PushFault>, Fault> {
     Ok(document.push(name, Value::Null))
 }
 
-fn print_zero(rt: &(impl Print + AllocGlobal)) -> Result<(), Fault> {
+fn print_zero(rt: &HostRuntime) -> Result<(), Fault> {
     let mut document = Document::new(rt.alloc());
     put(rt.alloc(), &mut document, "\0", Value::Null)?;
     match size_of(rt.alloc(), &document) {
         Ok(_) => Err(Fault::Refused),
-        Err(fault) => {
-            println!(rt; "encode a zero in a name: {fault:?}")?;
-            Ok(())
-        }
+        Err(fault) => { print_line(rt, format_args!("encode a zero in a name: {fault:?}")) }
     }
 }
 
-fn print_value(rt: &(impl Print + AllocGlobal)) -> Result<(), Fault> {
+fn print_value(rt: &HostRuntime) -> Result<(), Fault> {
     let bytes = int32(rt.alloc())?;
-    println!(rt; "int32 -2: {}", Hex(bytes.slice()))?;
+    print_hex(rt, "int32 -2", bytes.slice())?;
     print_read(rt, bytes.slice())
 }
 
@@ -89,10 +95,14 @@ fn int32(alloc: Global) -> Result<Bytes, Fault> {
     accepted(value_bytes(alloc, &Value::Int32(-2)))
 }
 
-fn print_read(rt: &(impl Print + AllocGlobal), bytes: &[u8]) -> Result<(), Fault> {
-    let kind = value_kind(&Value::Int32(0));
-    if let Value::Int32(read) = accepted(value_from(rt.alloc(), kind, bytes))? {
-        println!(rt; "and back: {read}")?;
+fn print_read(rt: &HostRuntime, bytes: &[u8]) -> Result<(), Fault> {
+    let value = accepted(value_from(rt.alloc(), 0x10, bytes))?;
+    print_int32(rt, &value)
+}
+
+fn print_int32(rt: &HostRuntime, value: &Value) -> Result<(), Fault> {
+    match value {
+        Value::Int32(read) => print_line(rt, format_args!("and back: {read}")),
+        _ => Err(Fault::Refused),
     }
-    Ok(())
 }

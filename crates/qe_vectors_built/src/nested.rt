@@ -1,9 +1,8 @@
 //! Documents of many levels and of many bytes, read and written.
 
-use crate::documents::read_of;
 use qe_base::{Bytes, NoMemory, Text};
-use qe_document::{Document, EncodeFault, Value, Values, encode};
-use qe_line::{Fault, Hex, accepted};
+use qe_document::{BsonFault, Document, EncodeFault, Value, Values, decode, encode};
+use qe_line::{Count, Fault, Hex, accepted, print_answer};
 use std::alloc::Global;
 
 // How many levels, the head of each, and the innermost one's length.
@@ -17,7 +16,7 @@ const LEVELS: [(u32, [u8; 3], u8); 6] = [
 ];
 
 /// Prints what is read of levels of documents, and what is written of long and of deep ones.
-pub fn print(rt: &(impl Print + AllocGlobal)) -> Result<(), Fault> {
+pub fn print(rt: &HostRuntime) -> Result<(), Fault> {
     for (levels, item, least) in LEVELS {
         print_levels(rt, levels, &item, least)?;
     }
@@ -32,33 +31,45 @@ pub fn print(rt: &(impl Print + AllocGlobal)) -> Result<(), Fault> {
     print_before_deep(rt)
 }
 
-fn print_levels(
-    rt: &(impl Print + AllocGlobal),
-    levels: u32,
-    item: &[u8; 3],
-    least: u8,
-) -> Result<(), Fault> {
+fn print_levels(rt: &HostRuntime, levels: u32, item: &[u8; 3], least: u8) -> Result<(), Fault> {
     let bytes = levels_of(rt.alloc(), levels, item, least)?;
-    match read_of(rt.alloc(), bytes.slice()) {
-        Ok((_, used)) => println!(rt; "{levels} levels of {}, {least}: {used} bytes", Hex(item))?,
-        Err(fault) => println!(rt; "{levels} levels of {}, {least}: {fault:?}", Hex(item))?,
-    }
-    Ok(())
+    print_answer(
+        rt,
+        format_args!("{levels} levels of {}, {least}", Hex(item)),
+        used_of(rt.alloc(), bytes.slice()),
+    )
+}
+
+fn used_of(alloc: Global, bytes: &[u8]) -> Result<Count<'static>, BsonFault> {
+    let (_, used) = decode(alloc, bytes)?;
+    Ok(Count(used, "bytes"))
 }
 
 // Documents of one item inside each other, the innermost of a length.
 fn levels_of(alloc: Global, levels: u32, item: &[u8; 3], least: u8) -> Result<Bytes, NoMemory> {
     let mut bytes = Bytes::new(alloc);
-    for level in 1..levels {
-        let length = 8u32.wrapping_mul(levels - level).wrapping_add(5);
+    push_heads(&mut bytes, levels, item)?;
+    bytes.extend(&[least, 0, 0, 0, 0])?;
+    push_ends(&mut bytes, levels)?;
+    Ok(bytes)
+}
+
+// The head of each level but the innermost one, each 8 bytes shorter than the one before.
+fn push_heads(bytes: &mut Bytes, levels: u32, item: &[u8; 3]) -> Result<(), NoMemory> {
+    let mut length = levels.wrapping_mul(8).wrapping_sub(3);
+    for _ in 1..levels {
         bytes.extend(&length.to_le_bytes())?;
         bytes.extend(item)?;
+        length = length.wrapping_sub(8);
     }
-    bytes.extend(&[least, 0, 0, 0, 0])?;
+    Ok(())
+}
+
+fn push_ends(bytes: &mut Bytes, levels: u32) -> Result<(), NoMemory> {
     for _ in 1..levels {
         bytes.push(0)?;
     }
-    Ok(bytes)
+    Ok(())
 }
 
 /// Adds a field.
@@ -68,21 +79,17 @@ pub fn put(alloc: Global, document: &mut Document, name: &str, value: Value) -> 
 }
 
 /// How many bytes a document is written as.
-pub fn size_of(alloc: Global, document: &Document) -> Result<usize, EncodeFault> {
+pub fn size_of(alloc: Global, document: &Document) -> Result<Count<'static>, EncodeFault> {
     let bytes = encode(alloc, document)?;
-    Ok(bytes.len())
+    Ok(Count(bytes.len(), "bytes"))
 }
 
-fn print_encoded(
-    rt: &(impl Print + AllocGlobal),
-    what: &str,
-    document: &Document,
-) -> Result<(), Fault> {
-    match size_of(rt.alloc(), document) {
-        Ok(size) => println!(rt; "encode {what}: {size} bytes")?,
-        Err(fault) => println!(rt; "encode {what}: {fault:?}")?,
-    }
-    Ok(())
+fn print_encoded(rt: &HostRuntime, what: &str, document: &Document) -> Result<(), Fault> {
+    print_answer(
+        rt,
+        format_args!("encode {what}"),
+        size_of(rt.alloc(), document),
+    )
 }
 
 // A document in a document.
@@ -101,7 +108,7 @@ fn deep(alloc: Global, levels: u32) -> Result<Document, Fault> {
     Ok(document)
 }
 
-fn print_deep(rt: &(impl Print + AllocGlobal), levels: u32) -> Result<(), Fault> {
+fn print_deep(rt: &HostRuntime, levels: u32) -> Result<(), Fault> {
     let document = deep(rt.alloc(), levels)?;
     print_encoded(rt, "levels of documents", &document)
 }
@@ -122,7 +129,7 @@ fn put_arrays(alloc: Global, document: &mut Document, levels: u32) -> Result<(),
     put(alloc, document, "a", Value::Array(array))
 }
 
-fn print_arrays(rt: &(impl Print + AllocGlobal), levels: u32) -> Result<(), Fault> {
+fn print_arrays(rt: &HostRuntime, levels: u32) -> Result<(), Fault> {
     let mut document = Document::new(rt.alloc());
     put_arrays(rt.alloc(), &mut document, levels)?;
     print_encoded(rt, "levels of arrays", &document)
@@ -134,21 +141,21 @@ fn put_zeros(alloc: Global, document: &mut Document, count: usize) -> Result<(),
     put(alloc, document, "a", Value::Binary { subtype: 0, bytes })
 }
 
-fn print_zeros(rt: &(impl Print + AllocGlobal), count: usize) -> Result<(), Fault> {
+fn print_zeros(rt: &HostRuntime, count: usize) -> Result<(), Fault> {
     let mut document = Document::new(rt.alloc());
     put_zeros(rt.alloc(), &mut document, count)?;
     print_encoded(rt, "many zeros", &document)
 }
 
 // Depth is looked at before the zero in a name.
-fn print_before_zero(rt: &(impl Print + AllocGlobal)) -> Result<(), Fault> {
+fn print_before_zero(rt: &HostRuntime) -> Result<(), Fault> {
     let mut document = deep(rt.alloc(), 101)?;
     put(rt.alloc(), &mut document, "\0", Value::Null)?;
     print_encoded(rt, "levels, then a zero in a name", &document)
 }
 
 // Inner names are looked at too.
-fn print_inner_zero(rt: &(impl Print + AllocGlobal)) -> Result<(), Fault> {
+fn print_inner_zero(rt: &HostRuntime) -> Result<(), Fault> {
     let mut inner = Document::new(rt.alloc());
     put(rt.alloc(), &mut inner, "\0", Value::Null)?;
     let document = inside(rt.alloc(), inner)?;
@@ -156,7 +163,7 @@ fn print_inner_zero(rt: &(impl Print + AllocGlobal)) -> Result<(), Fault> {
 }
 
 // Length is looked at before both.
-fn print_before_deep(rt: &(impl Print + AllocGlobal)) -> Result<(), Fault> {
+fn print_before_deep(rt: &HostRuntime) -> Result<(), Fault> {
     let mut document = Document::new(rt.alloc());
     put_zeros(rt.alloc(), &mut document, 16_777_204)?;
     put_deep(rt.alloc(), &mut document)?;

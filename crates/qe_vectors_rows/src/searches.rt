@@ -4,22 +4,30 @@ ghost use Rattle.std.specs.Prelude.{◌≡◌, ◌<◌, false};
 ghost use Rattle.qe_esc.specs.Rows.{has};
 
 use crate::counted::Counted;
-use crate::line::{Spaced, Word, bytes_of};
 use qe_base::NoMemory;
 use qe_esc::{
     Changes, Emu, Esc, Overlay, RowKey, RowKind, RowView, emu_of, plan_anchor, plan_position,
 };
 use qe_line::{Fault, print_line};
+use qe_line_words::{Spaced, bytes_of, kind_of, numbers_of};
 use qe_tokens::EscContention;
 use std::cell::Cell;
 
-/// Carries the words of a line out: `p` and `x` add and take out positions from one number to another, `a` and `b` add
-/// an anchor with and without numbers, `s` searches, `w` searches among rows as they will be, and then as they are.
-pub fn print(rt: &HostRuntime, number: u64, words: &[Word<'_>]) -> Result<(), Fault> {
+/// Carries the words of a line out: `rows` names the token by a number, `p` and `x` add and take out positions from one
+/// number to another, `a` and `b` add an anchor with and without numbers, `s` searches, `w` searches among rows as they
+/// will be, and then as they are.
+pub fn print(rt: &HostRuntime, line: &str) -> Result<(), Fault> {
+    match line.split_once(' ') {
+        Some((token, words)) => print_words(rt, numbers_of(token)?, words),
+        None => Ok(()),
+    }
+}
+
+fn print_words(rt: &HostRuntime, [number]: [u64; 1], words: &str) -> Result<(), Fault> {
     let token = EscContention(bytes_of(number));
     let key = RowKey::new(&token);
     let mut esc = Esc::new(rt.alloc());
-    for word in words {
+    for word in words.split(' ') {
         carry_out(rt, &mut esc, &key, &token, word)?;
     }
     Ok(())
@@ -30,10 +38,9 @@ fn carry_out(
     esc: &mut Esc,
     key: &RowKey,
     token: &EscContention,
-    word: &Word<'_>,
+    word: &str,
 ) -> Result<(), Fault> {
-    match word.kind {
-        "rows" => Ok(()),
+    match kind_of(word) {
         "p" => add_positions(esc, key, word),
         "x" => take_positions(esc, key, word),
         "a" => add_null(esc, key, word),
@@ -44,28 +51,32 @@ fn carry_out(
     }
 }
 
-fn add_positions(esc: &mut Esc, key: &RowKey, word: &Word<'_>) -> Result<(), Fault> {
-    for number in word.number(0)?..word.number(1)?.saturating_add(1) {
+fn add_positions(esc: &mut Esc, key: &RowKey, word: &str) -> Result<(), Fault> {
+    let [first, last] = numbers_of::<2>(word)?;
+    for number in first..last.saturating_add(1) {
         add(esc, key.id(RowKind::Position, number), None)?;
     }
     Ok(())
 }
 
-fn take_positions(esc: &mut Esc, key: &RowKey, word: &Word<'_>) -> Result<(), Fault> {
-    for number in word.number(0)?..word.number(1)?.saturating_add(1) {
+fn take_positions(esc: &mut Esc, key: &RowKey, word: &str) -> Result<(), Fault> {
+    let [first, last] = numbers_of::<2>(word)?;
+    for number in first..last.saturating_add(1) {
         esc.remove(&key.id(RowKind::Position, number));
     }
     Ok(())
 }
 
-fn add_null(esc: &mut Esc, key: &RowKey, word: &Word<'_>) -> Result<(), Fault> {
-    let value = key.null_value(&[9; 16], word.number(1)?, word.number(2)?);
-    add(esc, key.id(RowKind::Anchor, word.number(0)?), Some(value))?;
+fn add_null(esc: &mut Esc, key: &RowKey, word: &str) -> Result<(), Fault> {
+    let [number, position, anchor] = numbers_of::<3>(word)?;
+    let value = key.null_value(&[9; 16], position, anchor);
+    add(esc, key.id(RowKind::Anchor, number), Some(value))?;
     Ok(())
 }
 
-fn add_anchor(esc: &mut Esc, key: &RowKey, word: &Word<'_>) -> Result<(), Fault> {
-    add(esc, key.id(RowKind::Anchor, word.number(0)?), None)?;
+fn add_anchor(esc: &mut Esc, key: &RowKey, word: &str) -> Result<(), Fault> {
+    let [number] = numbers_of::<1>(word)?;
+    add(esc, key.id(RowKind::Anchor, number), None)?;
     Ok(())
 }
 
@@ -89,8 +100,12 @@ fn put(esc: &mut Esc, id: [u8; 32], value: Option<[u8; 32]>)
 }
 
 // Plans a position, an anchor that counts it, and that the position before it goes.
-fn plan(esc: &Esc, changes: &mut Changes, key: &RowKey, word: &Word<'_>) -> Result<(), Fault> {
-    let (position, anchor) = (word.number(0)?, word.number(1)?);
+fn plan(
+    esc: &Esc,
+    changes: &mut Changes,
+    key: &RowKey,
+    [position, anchor]: [u64; 2],
+) -> Result<(), NoMemory> {
     plan_position(esc, changes, key.id(RowKind::Position, position))?;
     let value = key.anchor_value(&[5; 16], position);
     plan_anchor(esc, changes, key.id(RowKind::Anchor, anchor), value)?;
@@ -103,10 +118,10 @@ fn print_planned(
     esc: &mut Esc,
     key: &RowKey,
     token: &EscContention,
-    word: &Word<'_>,
+    word: &str,
 ) -> Result<(), Fault> {
     let mut changes = Changes::new(rt.alloc());
-    plan(esc, &mut changes, key, word)?;
+    plan(esc, &mut changes, key, numbers_of(word)?)?;
     print_overlaid(rt, esc, &changes, token)?;
     apply(esc, &changes)?;
     print_found(rt, esc, token, esc)
@@ -154,7 +169,12 @@ fn print_emu(rt: &HostRuntime, found: &Emu, probes: u64, esc: &Esc) -> Result<()
         found.count,
         probes,
         esc.len(),
-        esc.positions()?.len() as u64,
+        positions_in(esc)?,
     ];
     print_line(rt, format_args!("{}{}", found.has_null, Spaced(&numbers)))
+}
+
+fn positions_in(esc: &Esc) -> Result<u64, NoMemory> {
+    let positions = esc.positions()?;
+    Ok(positions.len() as u64)
 }
