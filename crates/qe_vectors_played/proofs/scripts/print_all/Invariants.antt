@@ -1,0 +1,6 @@
+-- Each turn takes a line.
+use Rattle.std.proofs.Common.{length}
+use Rattle.qe_vectors_played.proofs.scripts.print_all.Given as goal
+
+abbrev pub decreases-loop-line : goal.decreases-loop-line
+decreases-loop-line l = length l.lines
